@@ -1,0 +1,3 @@
+pub mod Cores
+pub mod Refusals
+pub mod Theorems

@@ -1,0 +1,5 @@
+use Rattle.tables.proofs.Passed.{RightTo}
+use Rattle.tables.proofs.neighbour.checks.right_row.Given as given
+
+abbrev pub Inv-loop-u : given.InvT-loop-u
+Inv-loop-u l = RightTo (l .vertices) (l .vertex) (l .row) (l .u-index) (l .least)

@@ -1,0 +1,5 @@
+pub mod Rows
+pub mod Refusals
+pub mod Neighbours
+pub mod Counting
+pub mod Duties

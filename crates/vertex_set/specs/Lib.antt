@@ -1,0 +1,5 @@
+pub mod Sets
+pub mod Words
+pub mod Members
+pub mod Lists
+pub mod Refusals
