@@ -5,7 +5,7 @@ use std::test::*;
 use tables::NeighbourTable;
 
 // The table of the given lists, or the number of its refusal.
-pub fn made(
+pub(crate) fn made(
     heap: Global,
     vertices: u16,
     layers: u8,
@@ -21,7 +21,7 @@ pub fn made(
 }
 
 // 0 for a table that is made, or the number of its refusal.
-pub fn verdict(
+pub(crate) fn verdict(
     heap: Global,
     vertices: u16,
     layers: u8,
@@ -35,7 +35,7 @@ pub fn verdict(
 }
 
 // 4 vertices; in layer a the ties 0-1, 0-2 and 1-2, in layer b the ties 0-1 and 2-3.
-pub fn four(heap: Global) -> Result<NeighbourTable, Fail> {
+pub(crate) fn four(heap: Global) -> Result<NeighbourTable, Fail> {
     match made(
         heap,
         4,

@@ -1,8 +1,8 @@
 -- Cores exist, are one, and lie inside each other.
 use mathlib.Core.Path.{_≡_, refl, sym, _∙_, ap, subst}
-use mathlib.Core.Logic.{_⊎_, inl, inr, _↔_}
+use mathlib.Core.Logic.{_⊎_, inl, inr}
 use mathlib.Core.Bool.{Bool, true, false, not, _&&_}
-use Prim.Native.Nat.{ℕ, zero, suc, _+_, _<_, _≤_}
+use Prim.Native.Nat.{ℕ, zero, suc, _+_, _<_}
 use native.Mathlib.Nat.{le-trans, not-suc-le-zero}
 use native.Mathlib.Omega.{arith}
 use lib.Dec.{eqb}
@@ -13,6 +13,20 @@ use Rattle.vertex_set.proofs.Counts.{count-without}
 use Rattle.network.specs.Networks.{Multilayer, Duties}
 use Rattle.cores.specs.Cores.{Order, Vector, Strong, Meets, Core, CoreWithin}
 use Rattle.cores.specs.Theorems.{NoHigher}
+
+-- of the numbers below n one has P, or each has Q
+some-or-each : (P Q : ℕ → Type 0) → ((i : ℕ) → P i ⊎ Q i) → (n : ℕ) → ((i : ℕ) × (i < n) × P i) ⊎ ((i : ℕ) → i < n → Q i)
+some-or-each P Q either zero = inr (λ i l. absurd (not-suc-le-zero l))
+some-or-each P Q either (suc n) = go (either n) (some-or-each P Q either n)
+  where
+    each : Q n → ((i : ℕ) → i < n → Q i) → (i : ℕ) → i < suc n → (i ≡ n) ⊎ (i ≡ n → ⊥) → Q i
+    each q f i l (inl e) = subst Q (sym e) q
+    each q f i l (inr d) = f i (omega arith)
+
+    go : P n ⊎ Q n → ((i : ℕ) × (i < n) × P i) ⊎ ((i : ℕ) → i < n → Q i) → ((i : ℕ) × (i < suc n) × P i) ⊎ ((i : ℕ) → i < suc n → Q i)
+    go (inl p) x = inl (n, omega arith, p)
+    go (inr q) (inl (i, l, p)) = inl (i, omega arith, p)
+    go (inr q) (inr f) = inr (λ i l. each q f i l (cases-eq i n))
 
 -- sets that contain each other have the same members
 pub same-members : (s t : Set) → s ⊆ t → t ⊆ s → Same s t
@@ -57,48 +71,27 @@ module _ (highest : ℕ) (g : Multilayer) (d : Duties highest g) (o : Order) (k 
       other : u ≡ v → ⊥
       other f = absurd (omega (arith, m .strong v (subst (λ w. w ∈ x) f e) i l, d .monotone (getD o i 0) x s v sub))
 
-  -- of the places in the order, one at which v falls short, or none
-  shortfall : (s : Set) (v n : ℕ) → ((i : ℕ) × (i < n) × (g .strength (getD o i 0) s v < getD k i 0)) ⊎ ((i : ℕ) → i < n → getD k i 0 ≤ g .strength (getD o i 0) s v)
-  shortfall s v zero = inr (λ i l. absurd (not-suc-le-zero l))
-  shortfall s v (suc n) = go (cases-lt (g .strength (getD o n 0) s v) (getD k n 0)) (shortfall s v n)
-    where
-      go : (g .strength (getD o n 0) s v < getD k n 0) ⊎ (getD k n 0 ≤ g .strength (getD o n 0) s v) → ((i : ℕ) × (i < n) × (g .strength (getD o i 0) s v < getD k i 0)) ⊎ ((i : ℕ) → i < n → getD k i 0 ≤ g .strength (getD o i 0) s v) → ((i : ℕ) × (i < suc n) × (g .strength (getD o i 0) s v < getD k i 0)) ⊎ ((i : ℕ) → i < suc n → getD k i 0 ≤ g .strength (getD o i 0) s v)
-      go (inl l) x = inl (n, omega arith, l)
-      go (inr l) (inl (i, m, less)) = inl (i, omega arith, less)
-      go (inr l) (inr f) = inr (λ i m. last i m (cases-eq i n))
-        where
-          last : (i : ℕ) → i < suc n → (i ≡ n) ⊎ (i ≡ n → ⊥) → getD k i 0 ≤ g .strength (getD o i 0) s v
-          last i m (inl e) = subst (λ j. getD k j 0 ≤ g .strength (getD o j 0) s v) (sym e) l
-          last i m (inr e) = f i (omega arith)
+  -- v falls short within s, or is strong there
+  short-or-strong : (s : Set) (v : ℕ) → Short s v ⊎ Strong g o k s v
+  short-or-strong s v = some-or-each _ _ (λ i. cases-lt (g .strength (getD o i 0) s v) (getD k i 0)) (length o)
 
-  -- of the vertices below n, a member of s that falls short, or none
-  faller : (s : Set) (n : ℕ) → ((v : ℕ) × (v < n) × (v ∈ s) × Short s v) ⊎ ((v : ℕ) → v < n → v ∈ s → Strong g o k s v)
-  faller s zero = inr (λ v l. absurd (not-suc-le-zero l))
-  faller s (suc n) = go (cases-bool (s n)) (shortfall s n (length o)) (faller s n)
+  -- v is a member that falls short, or is strong if it is a member
+  falls-or-stays : (s : Set) (v : ℕ) → ((v ∈ s) × Short s v) ⊎ (v ∈ s → Strong g o k s v)
+  falls-or-stays s v = go (cases-bool (s v)) (short-or-strong s v)
     where
-      go : (s n ≡ true) ⊎ (s n ≡ false) → Short s n ⊎ Strong g o k s n → ((v : ℕ) × (v < n) × (v ∈ s) × Short s v) ⊎ ((v : ℕ) → v < n → v ∈ s → Strong g o k s v) → ((v : ℕ) × (v < suc n) × (v ∈ s) × Short s v) ⊎ ((v : ℕ) → v < suc n → v ∈ s → Strong g o k s v)
-      go (inl e) (inl x) y = inl (n, omega arith, e, x)
-      go (inl e) (inr x) (inl (v, l, m, y)) = inl (v, omega arith, m, y)
-      go (inl e) (inr x) (inr y) = inr (λ v l m. last v l m (cases-eq v n))
-        where
-          last : (v : ℕ) → v < suc n → v ∈ s → (v ≡ n) ⊎ (v ≡ n → ⊥) → Strong g o k s v
-          last v l m (inl f) = subst (Strong g o k s) (sym f) x
-          last v l m (inr f) = y v (omega arith) m
-      go (inr e) x (inl (v, l, m, y)) = inl (v, omega arith, m, y)
-      go (inr e) x (inr y) = inr (λ v l m. y v (other v l m (cases-eq v n)) m)
-        where
-          other : (v : ℕ) → v < suc n → v ∈ s → (v ≡ n) ⊎ (v ≡ n → ⊥) → v < n
-          other v l m (inl f) = absurd (both-ways (s v) (subst (λ w. s w ≡ false) (sym f) e) m)
-          other v l m (inr f) = omega arith
+      go : (s v ≡ true) ⊎ (s v ≡ false) → Short s v ⊎ Strong g o k s v → ((v ∈ s) × Short s v) ⊎ (v ∈ s → Strong g o k s v)
+      go (inl e) (inl short) = inl (e, short)
+      go (inl e) (inr strong) = inr (λ m. strong)
+      go (inr e) x = inr (λ m. absurd (both-ways (s v) e m))
 
   -- one vertex that falls short is taken away after the other, until none does
   peeled : (fuel : ℕ) (s : Set) → s ⊆ below (g .vertices) → ((x : Set) → Meets g o k x → x ⊆ s) → count s (g .vertices) < fuel → (c : Set) × Core g o k c
   peeled zero s inside holds l = absurd (not-suc-le-zero l)
-  peeled (suc fuel) s inside holds l = go (peeled fuel) (faller s (g .vertices))
+  peeled (suc fuel) s inside holds l = go (peeled fuel) (some-or-each _ _ (falls-or-stays s) (g .vertices))
     where
-      go : ((t : Set) → t ⊆ below (g .vertices) → ((x : Set) → Meets g o k x → x ⊆ t) → count t (g .vertices) < fuel → (c : Set) × Core g o k c) → ((v : ℕ) × (v < g .vertices) × (v ∈ s) × Short s v) ⊎ ((v : ℕ) → v < g .vertices → v ∈ s → Strong g o k s v) → (c : Set) × Core g o k c
+      go : ((t : Set) → t ⊆ below (g .vertices) → ((x : Set) → Meets g o k x → x ⊆ t) → count t (g .vertices) < fuel → (c : Set) × Core g o k c) → ((v : ℕ) × (v < g .vertices) × ((v ∈ s) × Short s v)) ⊎ ((v : ℕ) → v < g .vertices → v ∈ s → Strong g o k s v) → (c : Set) × Core g o k c
       go again (inr all) = (s, record { meets = record { inside = inside; strong = λ v e. all v (ltb-true v (g .vertices) (inside v e)) e }; largest = holds })
-      go again (inl (v, m, e, short)) = again (without-vertex s v) (λ u f. inside u (and-parts (s u) _ f .0)) (λ x q. short-out s v short x q (holds x q)) (omega (arith, fewer))
+      go again (inl (v, m, (e, short))) = again (without-vertex s v) (λ u f. inside u (and-parts (s u) _ f .0)) (λ x q. short-out s v short x q (holds x q)) (omega (arith, fewer))
         where
           fewer : count s (g .vertices) ≡ count (without-vertex s v) (g .vertices) + 1
           fewer = count-without s (without-vertex s v) v (g .vertices) e m (λ u. refl)

@@ -1,5 +1,5 @@
 -- A neighbour table keeps the duties of a network.
-use mathlib.Core.Path.{_≡_, refl}
+use mathlib.Core.Path.{_≡_, refl, sym, _∙_, ap}
 use mathlib.Core.HLevel.{Π-prop, ⊥-prop}
 use mathlib.Core.Logic.{_⊎_, inl, inr, ∥∥₁-elim}
 use mathlib.Core.Bool.{Bool, true, false, _&&_, cond, Bool-set}
@@ -15,6 +15,7 @@ use Rattle.std.specs.shelf.Lists.{countBy}
 use Rattle.std.proofs.shelf.Sums.{countBy-le-length}
 use Rattle.std.proofs.shelf.Tests.{and-parts, and-left, and-right, ltb-true, lt-ltb, le-ltb, cond-both, cond-false}
 use Rattle.vertex_set.specs.Sets.{Set, _⊆_, _∩_, below}
+use Rattle.vertex_set.proofs.Sets.{and-true}
 use Rattle.network.specs.Networks.{Duties}
 use Rattle.tables.specs.Rows.{Rows, RowRight, row}
 use Rattle.tables.specs.Refusals.{Rule, EachRule}
@@ -70,11 +71,7 @@ module _ (t : Rows) (each : EachRule t) where
   local l s v = go (ltb l (t .layers) && ltb v (t .vertices)) (counted l v)
     where
       inside : (u : ℕ) → u < t .vertices → s u ≡ (s ∩ below (t .vertices)) u
-      inside u m = rw (lt-ltb u (t .vertices) m) (always (s u))
-        where
-          always : (b : Bool) → b ≡ (b && true)
-          always true = refl
-          always false = refl
+      inside u m = sym (ap (λ (b : Bool). s u && b) (lt-ltb u (t .vertices) m) ∙ and-true (s u))
 
       go : (b : Bool) → (b ≡ true → (v < t .vertices) × RowRight (t .vertices) v (row t l v)) → cond b (countBy s (row t l v)) 0 ≡ cond b (countBy (s ∩ below (t .vertices)) (row t l v)) 0
       go true c = count-agrees s (s ∩ below (t .vertices)) (row t l v) (λ i m. inside (getD (row t l v) i 0) (c refl .1 .inside i m))

@@ -1,16 +1,16 @@
 -- Bits of numbers under the operations on words.
-use mathlib.Core.Path.{_≡_, refl, sym, _∙_, ap, ap₂, subst}
+use mathlib.Core.Path.{_≡_, refl, sym, _∙_, ap, ap₂}
 use mathlib.Core.Logic.{_⊎_, inl, inr}
 use mathlib.Core.Bool.{Bool, true, false, not, _&&_, cond}
-use Prim.Native.Nat.{ℕ, zero, suc, _+_, _-_, _*_, _/_, _%_, _^_, _<_, _≤_}
+use Prim.Native.Nat.{ℕ, zero, suc, _+_, _-_, _/_, _%_, _^_, _<_, _≤_}
 use native.Mathlib.Nat.{pow-suc, mod-eq-of-lt, div-one}
 use native.Mathlib.Numerals.{one-add}
 use native.Mathlib.Omega.{arith}
 use lib.Bits.{bitAnd, bitXor, xor-add-and}
 use lib.Count.{ones, onesIn, ones-step, trailingZeros, under}
 use lib.Dec.{eqb, ltb}
-use Rattle.std.proofs.shelf.Bits.{and-shr, and-mod, xor-shr, xor-mod, and-mask, pow-add, pow-pos, pow-below, div-below, mod-below, shl-shr, shr-shr, div-mul-add, mod-mul-add}
-use Rattle.std.proofs.shelf.Tests.{eq-eqb, ne-eqb, eqb-true, eqb-false, lt-ltb, le-ltb, cases-order, cases-lt}
+use Rattle.std.proofs.shelf.Bits.{and-shr, and-mod, xor-shr, xor-mod, and-mask, pow-pos, mod-below, shr-shr}
+use Rattle.std.proofs.shelf.Tests.{eq-eqb, ne-eqb, lt-ltb, le-ltb, cases-lt}
 use Rattle.vertex_set.specs.Sets.{count}
 use Rattle.vertex_set.specs.Words.{bit}
 use Rattle.vertex_set.proofs.Counts.{count-same, count-split}

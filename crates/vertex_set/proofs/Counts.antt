@@ -1,12 +1,13 @@
 -- Counting members.
-use mathlib.Core.Path.{_≡_, refl, sym, _∙_, ap, ap₂, subst}
+use mathlib.Core.Path.{_≡_, refl, sym, _∙_, ap, ap₂}
 use mathlib.Core.Logic.{_⊎_, inl, inr, _↔_}
 use mathlib.Core.Bool.{Bool, true, false, not, _&&_, cond}
-use Prim.Native.Nat.{ℕ, zero, suc, _+_, _-_, _*_, _/_, _%_, _^_, _<_, _≤_, min}
+use Prim.Native.Nat.{ℕ, zero, suc, _+_, _-_, _<_, _≤_, min}
 use native.Mathlib.Nat.{add-zero, add-suc, not-suc-le-zero}
 use native.Mathlib.Omega.{arith}
 use lib.Dec.{T, eqb, ltb}
-use Rattle.std.proofs.shelf.Tests.{eq-eqb, ne-eqb, eqb-true, ltb-true, lt-ltb, le-ltb, cases-lt, cases-eq, both-ways, and-from, and-left, and-right, not-from-true, not-from-false}
+use Rattle.std.proofs.shelf.Tests.{eq-eqb, eqb-true, ltb-true, lt-ltb, le-ltb, cases-lt, cases-eq, both-ways, and-from, and-left, and-right, not-from-true, not-from-false}
+use Rattle.vertex_set.proofs.Sets.{without-here, without-other}
 use Rattle.vertex_set.specs.Sets.{Set, _∈_, _⊆_, Same, Limited, _∖_, none, below, without-vertex, count, size}
 
 -- the count depends on the members below n alone
@@ -57,14 +58,7 @@ count-more s t v (suc n) a b e l = go (cases-eq v n) (count-more s t v n a b e)
 
 -- a set without one of its members has one less
 pub count-without : (s t : Set) (v n : ℕ) → v ∈ s → v < n → Same t (without-vertex s v) → count s n ≡ count t n + 1
-count-without s t v n e l same = count-more t s v n (same v ∙ and-right _ _ (not-from-true _ (eq-eqb v v refl))) e others l
-  where
-    kept : (u : ℕ) (b : Bool) → not (eqb u v) ≡ true → (b && not (eqb u v)) ≡ b
-    kept u true h = h
-    kept u false h = refl
-
-    others : (u : ℕ) → (u ≡ v → ⊥) → t u ≡ s u
-    others u d = same u ∙ kept u (s u) (not-from-false _ (ne-eqb u v d))
+count-without s t v n e l same = count-more t s v n (same v ∙ without-here s v) e (λ u d. same u ∙ without-other s v u d) l
 
 -- the vertices below m + n are those below m and the n that follow
 pub count-split : (s : Set) (m n : ℕ) → count s (m + n) ≡ count s m + count (λ v. s (m + v)) n

@@ -1,7 +1,6 @@
 -- A list of the members, grown by the next one.
 use mathlib.Core.Path.{_≡_, refl, sym, _∙_, ap, subst}
-use mathlib.Core.Logic.{_⊎_, inl, inr, _↔_}
-use mathlib.Core.Bool.{true, false}
+use mathlib.Core.Logic.{_⊎_, inl, inr}
 use mathlib.Core.List.{List, [], _∷_, _++_}
 use Prim.Native.Nat.{ℕ, _+_, _<_, _≤_}
 use native.Mathlib.Omega.{arith}
@@ -9,7 +8,7 @@ use lib.ListN.{length, getD}
 use Rattle.std.proofs.shelf.Lists.{length-push, getD-push, getD-append-left}
 use Rattle.std.proofs.shelf.Tests.{cases-lt, cases-eq, lt-ltb, ltb-true, and-parts, and-from}
 use Rattle.vertex_set.specs.Sets.{Set, _∈_, _∩_, below}
-use Rattle.vertex_set.specs.Lists.{Ascending, Among, Lists, NoneFrom, FirstFrom}
+use Rattle.vertex_set.specs.Lists.{Among, Lists, FirstFrom}
 
 pub lists-more : (s : Set) (a : ℕ) (xs : List ℕ) (v : ℕ) → Lists (s ∩ below a) xs → FirstFrom s a v → Lists (s ∩ below (v + 1)) (xs ++ v ∷ [])
 lists-more s a xs v h f = record { ascending = λ i j l m. up i j l (cases-lt j (length xs)) (omega (arith, length-push xs v)); exactly = λ u. (there u, back u) }

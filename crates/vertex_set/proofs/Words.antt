@@ -1,19 +1,20 @@
 -- Membership in words of bits.
-use mathlib.Core.Path.{_≡_, refl, sym, _∙_, ap, ap₂, subst}
-use mathlib.Core.Logic.{_⊎_, inl, inr, _≢_}
-use mathlib.Core.Bool.{Bool, true, false, not, _&&_, _||_, cond}
+use mathlib.Core.Path.{_≡_, refl, sym, _∙_, ap, ap₂}
+use mathlib.Core.Logic.{_⊎_, inl, inr}
+use mathlib.Core.Bool.{Bool, true, false, not, _&&_, cond}
 use mathlib.Core.List.{List}
 use Prim.Native.Nat.{ℕ, zero, suc, _+_, _-_, _*_, _/_, _%_, _^_, _<_, _≤_, min}
 use native.Mathlib.Omega.{arith}
 use lib.Bits.{bitAnd, bitXor}
 use lib.Count.{ones}
-use lib.Dec.{eqb, ltb}
+use lib.Dec.{ltb}
 use lib.ListN.{length, getD, set, replicate}
-use Rattle.std.proofs.shelf.Bits.{one-shl, div-below, mod-below, div-mul-add, mod-mul-add}
+use Rattle.std.proofs.shelf.Bits.{one-shl, mod-below}
 use Rattle.std.proofs.shelf.Lists.{getD-past, getD-set-same, getD-set-other}
-use Rattle.std.proofs.shelf.Tests.{cases-eq, cases-lt, both-ways, lt-ltb, le-ltb, and-left, cond-true, cond-false, eq-eqb, ne-eqb, or-left, and-right, not-from-true}
+use Rattle.std.proofs.shelf.Tests.{cases-eq, cases-lt, both-ways, lt-ltb, le-ltb, and-left, cond-true, cond-false}
 use Rattle.vertex_set.specs.Sets.{Set, count, Same, Limited, below, _∩_, _∖_, with-vertex, without-vertex}
 use Rattle.vertex_set.specs.Words.{bit, member}
+use Rattle.vertex_set.proofs.Sets.{with-here, with-other, without-here, without-other}
 use Rattle.vertex_set.proofs.Bits.{bit-and, bit-xor, bit-not, bit-low, bit-zero, bit-pow-same, bit-pow-other, ones-count}
 use Rattle.vertex_set.proofs.Counts.{count-same, count-split, count-more}
 
@@ -77,8 +78,8 @@ module _ (ws : List ℕ) (i v : ℕ) (word : i ≡ v / 64) (long : length ws ≡
     put-in u = go (cases-eq u v)
       where
         go : (u ≡ v) ⊎ (u ≡ v → ⊥) → member (flipped ws i v) u ≡ with-vertex (member ws) v u
-        go (inl e) = rw e (flipped-here ∙ ap not out ∙ sym (or-left _ _ (eq-eqb v v refl)))
-        go (inr d) = flipped-other u d ∙ sym (ap (λ (b : Bool). b || member ws u) (ne-eqb u v d))
+        go (inl e) = rw e (flipped-here ∙ ap not out ∙ sym (with-here (member ws) v))
+        go (inr d) = flipped-other u d ∙ sym (with-other (member ws) v u d)
 
     pub put-in-size : count (member (flipped ws i v)) 1024 ≡ count (member ws) 1024 + 1
     put-in-size = count-more (member ws) (member (flipped ws i v)) v 1024 out (flipped-here ∙ ap not out) (λ u d. sym (flipped-other u d)) within
@@ -88,12 +89,8 @@ module _ (ws : List ℕ) (i v : ℕ) (word : i ≡ v / 64) (long : length ws ≡
     taken-out u = go (cases-eq u v)
       where
         go : (u ≡ v) ⊎ (u ≡ v → ⊥) → member (flipped ws i v) u ≡ without-vertex (member ws) v u
-        go (inl e) = rw e (flipped-here ∙ ap not was ∙ sym (and-right _ _ (not-from-true _ (eq-eqb v v refl))))
-        go (inr d) = flipped-other u d ∙ sym (ap (λ (b : Bool). member ws u && not b) (ne-eqb u v d) ∙ and-true (member ws u))
-          where
-            and-true : (b : Bool) → (b && true) ≡ b
-            and-true true = refl
-            and-true false = refl
+        go (inl e) = rw e (flipped-here ∙ ap not was ∙ sym (without-here (member ws) v))
+        go (inr d) = flipped-other u d ∙ sym (without-other (member ws) v u d)
 
     pub taken-out-size : count (member ws) 1024 ≡ count (member (flipped ws i v)) 1024 + 1
     taken-out-size = count-more (member (flipped ws i v)) (member ws) v 1024 (flipped-here ∙ ap not was) was flipped-other within

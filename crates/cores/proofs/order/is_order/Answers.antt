@@ -1,13 +1,11 @@
 use borrow.Author.Count.{below-more}
-use mathlib.Core.Bool.{true, false}
 use mathlib.Core.Logic.{_⊎_, inl, inr}
 use mathlib.Core.Path.{_≡_, refl, sym, _∙_}
 use Prim.Native.Nat.{ℕ, _+_, _-_, _<_, _≤_}
 use native.Mathlib.Omega.{arith}
-use lib.ListN.{length, getD, take}
+use lib.ListN.{getD}
 use Rattle.std.proofs.shelf.Lists.{getD-take, length-take}
 use Rattle.std.proofs.shelf.Tests.{cases-lt, false≢true}
-use Rattle.cores.proofs.order.is_order.Given as given
 use Rattle.cores.proofs.order.is_order.Needs as need
 use Rattle.cores.proofs.order.is_order.Needs.{then-layer-layers·by·then-layer-layers, then-layer-layers·by·else-layer-layers·then-contains}
 

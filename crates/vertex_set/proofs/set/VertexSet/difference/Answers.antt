@@ -1,4 +1,3 @@
-use mathlib.Core.Path.{_≡_, sym, ap}
 use native.Mathlib.Omega.{arith}
 use Rattle.vertex_set.proofs.Words.{words-and-not}
 use Rattle.vertex_set.proofs.set.VertexSet.difference.Needs as need

@@ -1,11 +1,11 @@
-use mathlib.Core.Path.{_≡_, sym, _∙_, ap}
-use Prim.Native.Nat.{ℕ, _+_, _*_, _/_, _<_, _^_, _%_}
+use mathlib.Core.Path.{_≡_}
+use Prim.Native.Nat.{_/_, _<_, _^_, _%_}
 use native.Mathlib.Omega.{arith}
 use mir.Val.{Fits}
 use mir.Syntax.{w64}
 use borrow.Author.Needs.{needs}
 use lib.ListN.{getD}
-use Rattle.vertex_set.proofs.Firsts.{first-in-rest, none-in-rest, none-in-word, first-in-word, NoneUpTo}
+use Rattle.vertex_set.proofs.Firsts.{first-in-rest, none-in-rest, none-in-word, first-in-word}
 use Rattle.vertex_set.proofs.set.VertexSet.first_from.Needs as need
 
 pub returns-then-rest-ne0 : need.returns-then-rest-ne0
