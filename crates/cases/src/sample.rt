@@ -4,23 +4,23 @@ use std::alloc::Global;
 use std::test::*;
 use tables::NeighbourTable;
 
-// The table of the given lists, or the number of its refusal.
-pub(crate) fn made(
+// The table of the given lists; the test fails where it is refused.
+pub(crate) fn table(
     heap: Global,
     vertices: u16,
     layers: u8,
     starts: &[u32],
     neighbours: &[u16],
-) -> Result<Result<NeighbourTable, u8>, Fail> {
+) -> Result<NeighbourTable, Fail> {
     let starts = Vec::from_slice(heap, starts)?;
     let neighbours = Vec::from_slice(heap, neighbours)?;
     match NeighbourTable::new(vertices, layers, starts, neighbours) {
-        Ok(table) => Ok(Ok(table)),
-        Err(e) => Ok(Err(e.number())),
+        Ok(made) => Ok(made),
+        Err(_) => Err(Fail::new("a table that keeps the rules is refused")),
     }
 }
 
-// 0 for a table that is made, or the number of its refusal.
+// 0 for lists of which a table is made, or the number of the refusal.
 pub(crate) fn verdict(
     heap: Global,
     vertices: u16,
@@ -28,22 +28,16 @@ pub(crate) fn verdict(
     starts: &[u32],
     neighbours: &[u16],
 ) -> Result<u8, Fail> {
-    match made(heap, vertices, layers, starts, neighbours)? {
+    let starts = Vec::from_slice(heap, starts)?;
+    let neighbours = Vec::from_slice(heap, neighbours)?;
+    match NeighbourTable::new(vertices, layers, starts, neighbours) {
         Ok(_) => Ok(0),
-        Err(number) => Ok(number),
+        Err(e) => Ok(e.number()),
     }
 }
 
 // 4 vertices; in layer a the ties 0-1, 0-2 and 1-2, in layer b the ties 0-1 and 2-3.
 pub(crate) fn four(heap: Global) -> Result<NeighbourTable, Fail> {
-    match made(
-        heap,
-        4,
-        2,
-        &[0, 2, 4, 6, 6, 7, 8, 9, 10],
-        &[1, 2, 0, 2, 0, 1, 1, 0, 3, 2],
-    )? {
-        Ok(table) => Ok(table),
-        Err(_) => Err(Fail::new("the sample is refused")),
-    }
+    let starts = [0, 2, 4, 6, 6, 7, 8, 9, 10];
+    table(heap, 4, 2, &starts, &[1, 2, 0, 2, 0, 1, 1, 0, 3, 2])
 }
