@@ -20,7 +20,8 @@ pub trait Network {
     // That its meaning keeps the duties.
     ghost duties: { (x : Self) → Duties stated (means x) };
 
-    // The constant, tied to the number that the duties speak of.
+    // The constant again. Generic code asks this function and not the constant, since only its
+    // answer is tied to the number that the duties speak of.
     fn highest_strength() -> u16
         ensures { λ r. ⌜ r ≡ stated ⌝ };
 
