@@ -5,7 +5,6 @@ use mathlib.Core.List.{List}
 use Prim.Native.Nat.{ℕ, zero, suc, _+_, _*_, _<_, _≤_}
 use native.Mathlib.Numerals.{add-one}
 use native.Mathlib.Omega.{arith}
-use borrow.Author.Count.{below-more}
 use lib.Arith.{digits-lt}
 use lib.ListN.{length, getD}
 use Rattle.std.proofs.shelf.Tests.{cases-lt}
@@ -32,7 +31,3 @@ row-within t s l v a b =
 -- the neighbours in a row are vertices
 pub named-inside : (t : Rows) → RowsRight t → (l v : ℕ) → l < t .layers → v < t .vertices → (xs : List ℕ) → xs ≡ row t l v → (k : ℕ) → k < length xs → getD xs k 0 < t .vertices
 named-inside t right l v a b xs e k m = subst (λ (ys : List ℕ). (i : ℕ) → i < length ys → getD ys i 0 < t .vertices) (sym e) (right l v a b .inside) k m
-
--- what holds of n vertices in each layer below k, and in layer k, holds in each below k + 1
-pub layer-more : (P : ℕ → ℕ → Type 0) (n k : ℕ) → ((l v : ℕ) → l < k → v < n → P l v) → ((v : ℕ) → v < n → P k v) → (l v : ℕ) → l < k + 1 → v < n → P l v
-layer-more P n k passed here l v a b = below-more (λ j. (u : ℕ) → u < n → P j u) k (λ j c u d. passed j u c d) here l a v b

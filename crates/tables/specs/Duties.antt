@@ -1,7 +1,7 @@
 -- A neighbour table keeps the duties of a network.
-use mathlib.Core.Path.{_≡_, refl, sym, _∙_, ap}
+use mathlib.Core.Path.{_≡_, refl}
 use mathlib.Core.HLevel.{Π-prop, ⊥-prop}
-use mathlib.Core.Logic.{_⊎_, inl, inr, ∥∥₁-elim}
+use mathlib.Core.Logic.{∥∥₁-elim}
 use mathlib.Core.Bool.{Bool, true, false, _&&_, cond, Bool-set}
 use mathlib.Core.List.{List}
 use Prim.Native.Nat.{ℕ, _<_, _≤_}
@@ -13,10 +13,11 @@ use lib.Dec.{ltb}
 use lib.ListN.{getD}
 use Rattle.std.specs.shelf.Lists.{countBy}
 use Rattle.std.proofs.shelf.Sums.{countBy-le-length}
-use Rattle.std.proofs.shelf.Tests.{and-parts, and-left, and-right, ltb-true, lt-ltb, le-ltb, cond-both, cond-false}
+use Rattle.std.proofs.shelf.Tests.{and-parts, ltb-true, cond-both}
 use Rattle.vertex_set.specs.Sets.{Set, _⊆_, _∩_, below}
-use Rattle.vertex_set.proofs.Sets.{and-true}
+use Rattle.vertex_set.proofs.Sets.{same-below}
 use Rattle.network.specs.Networks.{Duties}
+use Rattle.network.proofs.Strengths.{cond-grows, none-missing}
 use Rattle.tables.specs.Rows.{Rows, RowRight, row}
 use Rattle.tables.specs.Refusals.{Rule, EachRule}
 use Rattle.tables.specs.Neighbours.{neighbours-in, neighbour-network}
@@ -60,27 +61,15 @@ module _ (t : Rows) (each : EachRule t) where
 
   -- in a larger group no vertex is weaker
   monotone : (l : ℕ) (s u : Set) (v : ℕ) → s ⊆ u → neighbours-in t l s v ≤ neighbours-in t l u v
-  monotone l s u v h = go (ltb l (t .layers) && ltb v (t .vertices))
-    where
-      go : (b : Bool) → cond b (countBy s (row t l v)) 0 ≤ cond b (countBy u (row t l v)) 0
-      go true = count-grows s u (row t l v) h
-      go false = omega arith
+  monotone l s u v h = cond-grows (ltb l (t .layers) && ltb v (t .vertices)) (count-grows s u (row t l v) h)
 
   -- members that are no vertices do not count
   local : (l : ℕ) (s : Set) (v : ℕ) → neighbours-in t l s v ≡ neighbours-in t l (s ∩ below (t .vertices)) v
   local l s v = go (ltb l (t .layers) && ltb v (t .vertices)) (counted l v)
     where
-      inside : (u : ℕ) → u < t .vertices → s u ≡ (s ∩ below (t .vertices)) u
-      inside u m = sym (ap (λ (b : Bool). s u && b) (lt-ltb u (t .vertices) m) ∙ and-true (s u))
-
       go : (b : Bool) → (b ≡ true → (v < t .vertices) × RowRight (t .vertices) v (row t l v)) → cond b (countBy s (row t l v)) 0 ≡ cond b (countBy (s ∩ below (t .vertices)) (row t l v)) 0
-      go true c = count-agrees s (s ∩ below (t .vertices)) (row t l v) (λ i m. inside (getD (row t l v) i 0) (c refl .1 .inside i m))
+      go true c = count-agrees s (s ∩ below (t .vertices)) (row t l v) (λ i m. same-below s (t .vertices) (getD (row t l v) i 0) (c refl .1 .inside i m))
       go false c = refl
-
-  -- there is no strength where there is no row
-  lacking : (l : ℕ) (s : Set) (v : ℕ) → (t .layers ≤ l) ⊎ (t .vertices ≤ v) → neighbours-in t l s v ≡ 0
-  lacking l s v (inl a) = cond-false _ _ _ (and-left _ _ (le-ltb l (t .layers) a))
-  lacking l s v (inr a) = cond-false _ _ _ (and-right _ _ (le-ltb v (t .vertices) a))
 
 -- the duties, with the highest strength 1,023
 pub neighbour-duties : (t : Rows) → ∥ EachRule t ∥₁ → Duties 1023 (neighbour-network t)
@@ -95,5 +84,5 @@ neighbour-duties t valid =
       bounded = bounded t each;
       monotone = monotone t each;
       local = local t each;
-      lacking = lacking t each;
+      lacking = λ l s v. none-missing (t .layers) (t .vertices) l v (countBy s (row t l v));
     }

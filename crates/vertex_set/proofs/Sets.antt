@@ -1,9 +1,9 @@
--- Sets with and without a vertex.
-use mathlib.Core.Path.{_≡_, refl, _∙_, ap}
+-- Sets with and without a vertex, and cut off at a number.
+use mathlib.Core.Path.{_≡_, refl, sym, _∙_, ap}
 use mathlib.Core.Bool.{Bool, true, false, not, _&&_, _||_}
-use Prim.Native.Nat.{ℕ}
-use Rattle.std.proofs.shelf.Tests.{eq-eqb, ne-eqb, and-right, or-left, not-from-true}
-use Rattle.vertex_set.specs.Sets.{Set, with-vertex, without-vertex}
+use Prim.Native.Nat.{ℕ, _<_}
+use Rattle.std.proofs.shelf.Tests.{eq-eqb, ne-eqb, lt-ltb, and-right, or-left, not-from-true}
+use Rattle.vertex_set.specs.Sets.{Set, _∩_, below, with-vertex, without-vertex}
 
 pub and-true : (b : Bool) → (b && true) ≡ b
 and-true true = refl
@@ -20,3 +20,7 @@ without-here s v = and-right _ _ (not-from-true _ (eq-eqb v v refl))
 
 pub without-other : (s : Set) (v u : ℕ) → (u ≡ v → ⊥) → without-vertex s v u ≡ s u
 without-other s v u d = ap (λ (b : Bool). s u && not b) (ne-eqb u v d) ∙ and-true (s u)
+
+-- below n, what is cut off at n is as before
+pub same-below : (s : Set) (n v : ℕ) → v < n → s v ≡ (s ∩ below n) v
+same-below s n v l = sym (ap (λ (b : Bool). s v && b) (lt-ltb v n l) ∙ and-true (s v))

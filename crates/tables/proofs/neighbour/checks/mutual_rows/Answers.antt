@@ -1,6 +1,6 @@
 use native.Mathlib.Omega.{arith}
+use Rattle.network.proofs.Layers.{layer-more}
 use Rattle.tables.specs.Rows.{rows, MutualRow}
-use Rattle.tables.proofs.Places.{layer-more}
 use Rattle.tables.proofs.neighbour.checks.mutual_rows.Needs as need
 
 pub loop-layer-again : need.loop-layer-again

@@ -1,7 +1,8 @@
 use native.Mathlib.Omega.{arith}
 use borrow.Author.Count.{below-more}
+use Rattle.network.proofs.Layers.{layer-more}
 use Rattle.tables.specs.Rows.{rows, row, RowRight}
-use Rattle.tables.proofs.Places.{row-within, layer-more}
+use Rattle.tables.proofs.Places.{row-within}
 use Rattle.tables.proofs.neighbour.checks.right_rows.Needs as need
 
 pub row-of-row-requires : need.row-of-row-requires
