@@ -3,6 +3,7 @@
 use std::alloc::Global;
 use std::test::*;
 use tables::NeighbourTable;
+use weights::WeightTable;
 
 // The table of the given lists; the test fails where it is refused.
 pub(crate) fn table(
@@ -40,4 +41,17 @@ pub(crate) fn verdict(
 pub(crate) fn four(heap: Global) -> Result<NeighbourTable, Fail> {
     let starts = [0, 2, 4, 6, 6, 7, 8, 9, 10];
     table(heap, 4, 2, &starts, &[1, 2, 0, 2, 0, 1, 1, 0, 3, 2])
+}
+
+// The table of the given weights; the test fails where it is refused.
+pub(crate) fn weight_table(
+    heap: Global,
+    vertices: u16,
+    layers: u8,
+    weights: &[u16],
+) -> Result<WeightTable, Fail> {
+    match WeightTable::new(vertices, layers, Vec::from_slice(heap, weights)?) {
+        Ok(made) => Ok(made),
+        Err(_) => Err(Fail::new("weights that keep the rules are refused")),
+    }
 }

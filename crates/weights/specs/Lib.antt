@@ -1,0 +1,5 @@
+pub mod Weights
+pub mod Refusals
+pub mod Networks
+pub mod Sums
+pub mod Duties
