@@ -31,24 +31,12 @@ const ONE_SIDED: [u32; 9] = [0, 2, 4, 6, 6, 7, 8, 9, 9];
 
 const VECTORS: [[u16; 2]; 7] = [[0, 0], [1, 0], [1, 1], [0, 1], [2, 0], [2, 1], [0, 2]];
 
-// The rows of weights of 4 vertices in one layer.
-const WEIGHTS: [u16; 16] = [
-    0,
-    300,
-    100,
-    600,
-    300,
-    0,
-    50,
-    50,
-    100,
-    100,
-    0,
-    0,
-    40000,
-    40000,
-    0,
-    0,
+// The row of weights of each of 4 vertices, in one layer.
+const WEIGHTS: [[u16; 4]; 4] = [
+    [0, 300, 100, 600],
+    [300, 0, 50, 50],
+    [100, 100, 0, 0],
+    [40000, 40000, 0, 0],
 ];
 
 fn main(rt: LibcRuntime) -> Result<(), AnyError> {
@@ -97,7 +85,11 @@ fn show_views(rt: &LibcRuntime, network: &NeighbourTable) -> Result<(), AnyError
 
 // Cores over weights, and over a pile of views of them.
 fn show_weights(rt: &LibcRuntime) -> Result<(), AnyError> {
-    let Ok(table) = WeightTable::new(4, 1, Vec::from_slice(rt.alloc(), &WEIGHTS)?) else {
+    let mut weights = Vec::new(rt.alloc());
+    for row in WEIGHTS {
+        weights.extend_from_slice(&row)?;
+    }
+    let Ok(table) = WeightTable::new(4, 1, weights) else {
         return Err("the sample weights are refused".into());
     };
     print!(rt, "weights: ")?;

@@ -11,9 +11,8 @@ use vertex_set::VertexSet;
 // The strength of a vertex that keeps all its ties.
 const FULL: u16 = 1000;
 
-// A network in relative strengths: in thousandths of a vertex's strength among all vertices. For
-// these stands the set of all that a set can have, since members that are no vertices of the
-// network do not count.
+// A network in relative strengths: in thousandths of a vertex's strength among all vertices. The
+// set of these holds 0 to 1,023, so that it serves any network: what is no vertex does not count.
 #[derive(Drop)]
 pub struct Relative<'a, N> {
     network: &'a N,
