@@ -1,5 +1,7 @@
 // Worked examples and edges of the library, run as tests.
 
+#![tactic(auto)]
+
 #[cfg(test)]
 mod peels;
 mod pile;

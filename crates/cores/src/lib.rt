@@ -1,5 +1,7 @@
 // Orders, vectors and cores: the largest group in which everyone keeps the demanded strengths.
 
+#![tactic(auto)]
+
 mod error;
 mod order;
 mod peeling;

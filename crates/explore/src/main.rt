@@ -1,6 +1,8 @@
 // Shows cores over each kind of network, and how what is wrong is refused. The sample network has
 // 4 vertices: in layer a the ties 0-1, 0-2 and 1-2, in layer b the ties 0-1 and 2-3.
 
+#![tactic(auto)]
+
 mod show;
 
 use anyhow::anyhow;

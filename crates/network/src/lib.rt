@@ -1,5 +1,7 @@
 // What every kind of multilayer network offers, and what each must show.
 
+#![tactic(auto)]
+
 ghost use Rattle.std.specs.Prelude.{◌≡◌, ℕ};
 ghost use Rattle.network.specs.Networks.{Multilayer, Duties};
 ghost use Rattle.vertex_set.specs.Members.{members};

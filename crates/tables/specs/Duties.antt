@@ -6,7 +6,7 @@ use Rattle.std.proofs.Math.Bool.{Bool-set}
 use Rattle.std.proofs.Math.Nat.{ℕ_set}
 use Rattle.std.proofs.Math.Bridge.{le_prop}
 use Rattle.std.proofs.Common.{arith}
-use denote.Struct.Props.{four_prop, five_prop}
+use Rattle.std.proofs.Props.{props}
 use Rattle.std.proofs.lemmas.List.Sums.{count_by-le-length}
 use Rattle.std.proofs.lemmas.Bool.{and_parts, ltb-true, cond_both}
 use Rattle.vertex_set.specs.Sets.{Set, ◌⊆◌, ◌∩◌, below}
@@ -30,8 +30,8 @@ right_prop p q = λ i. record {
 
 -- a rule is kept in at most one way
 rule_prop : (t : Rows) (e : TableError) → IsProp (Rule t e)
-rule_prop t Size = four_prop le_prop le_prop le_prop le_prop
-rule_prop t Shape = five_prop (ℕ_set _ _) (ℕ_set _ _) (Π_prop (λ r. Π_prop (λ h. le_prop))) (ℕ_set _ _) le_prop
+rule_prop t Size = hlevel props
+rule_prop t Shape = hlevel props
 rule_prop t Row = Π_prop (λ l. Π_prop (λ v. Π_prop (λ a. Π_prop (λ b. right_prop))))
 rule_prop t Mutual = Π_prop (λ l. Π_prop (λ v. Π_prop (λ a. Π_prop (λ b. Π_prop (λ u. Π_prop (λ c. Bool-set _ _))))))
 

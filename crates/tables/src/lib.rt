@@ -1,5 +1,7 @@
 // Networks that are given by tables.
 
+#![tactic(auto)]
+
 mod error;
 mod neighbour;
 

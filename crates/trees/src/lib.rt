@@ -1,6 +1,8 @@
 // The tree of all nonempty cores: what it is, and its laws. The functions do nothing; each carries
 // a theorem in its contract.
 
+#![tactic(auto)]
+
 mod changes;
 mod shape;
 

@@ -1,5 +1,7 @@
 // Sets of vertices: sixteen words of bits and the number of members.
 
+#![tactic(auto)]
+
 mod error;
 mod set;
 

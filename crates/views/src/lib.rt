@@ -1,5 +1,7 @@
 // Networks that are seen through another one.
 
+#![tactic(auto)]
+
 mod relative;
 mod restricted;
 

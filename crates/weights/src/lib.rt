@@ -1,5 +1,7 @@
 // Networks that are given by tables of weights.
 
+#![tactic(auto)]
+
 mod error;
 mod table;
 

@@ -92,8 +92,10 @@ fn mutual_row(
     layer: u8,
     vertex: u16,
 ) -> bool
-    requires shaped { (Shaped (rows vertices layers starts.now neighbours.now)) × (RowsRight (rows vertices layers starts.now neighbours.now)) }
-    requires layer_lt_layers { (layer < layers) × (vertex < vertices) }
+    requires shaped { Shaped (rows vertices layers starts.now neighbours.now) }
+    requires right { RowsRight (rows vertices layers starts.now neighbours.now) }
+    requires layer_within { layer < layers }
+    requires vertex_within { vertex < vertices }
     ensures { T result ↔ MutualRow (rows vertices layers starts.now neighbours.now) layer vertex }
 {
     for u in row_of(vertices, starts, neighbours, layer, vertex) {
@@ -106,7 +108,8 @@ fn mutual_row(
 
 // Whether each row is mutual.
 pub(super) fn mutual_rows(vertices: u16, layers: u8, starts: &[u32], neighbours: &[u16]) -> bool
-    requires { (Shaped (rows vertices layers starts.now neighbours.now)) × (RowsRight (rows vertices layers starts.now neighbours.now)) }
+    requires shaped { Shaped (rows vertices layers starts.now neighbours.now) }
+    requires right { RowsRight (rows vertices layers starts.now neighbours.now) }
     ensures { T result ↔ MutualRows (rows vertices layers starts.now neighbours.now) }
 {
     for layer in 0..layers {

@@ -1,6 +1,6 @@
 use Rattle.std.proofs.Common.{◌≡◌, ℕ, ◌+◌, ◌-◌, ◌<◌, ◌≤◌, ◌⊎◌, get_or, sym, refl, ◌∙◌, inl, inr, arith, below_more}
 use Rattle.std.proofs.lemmas.List.{get_or-take, length-take}
-use Rattle.std.proofs.lemmas.Bool.{cases_lt, false≢true}
+use Rattle.std.proofs.lemmas.Bool.{cases_lt, eqb-true, eqb-false}
 use Rattle.cores.proofs.order.is_order.Goals as goal
 use Rattle.cores.proofs.order.is_order.Goals.{then-layer-layers-via-then-layer-layers, then-layer-layers-via-else-layer-layers+then-contains}
 
@@ -14,7 +14,7 @@ returns-then-layer-layers g c = (
         let i = c.loop-i.i in
         let order = c.args.order.now in
         let before : found.0 < i - 0 = omega (arith, found.1, length-take (i - 0) order) in
-        let same : get_or order found.0 0 ≡ get_or order i 0 = sym (get_or-take (i - 0) order found.0 0 before) ∙ (found.2 0).0 refl in
+        let same : get_or order found.0 0 ≡ get_or order i 0 = sym (get_or-take (i - 0) order found.0 0 before) ∙ eqb-true _ _ (found.2 0) in
         omega (arith, v.different found.0 i (omega (arith, c.loop-i-test.true)) c.loop-i-test.true same)
   ],
 )
@@ -32,5 +32,5 @@ loop-i-preserved g c = (
         let order = c.args.order.now in
         let here : h ≡ i = omega arith in
         let before : j < i - 0 = omega arith in
-        let none = (c.if-contains.ensures.cases j 0 (omega arith) (omega (arith, length-take (i - 0) order, c.loop-i-test.true))).1 in
-        false≢true (none (get_or-take (i - 0) order j 0 before ∙ rw here at e))
+        let none = (c.if-contains.ensures.cases j 0 (omega arith) (omega (arith, length-take (i - 0) order, c.loop-i-test.true))) in
+        eqb-false _ _ none (get_or-take (i - 0) order j 0 before ∙ rw here at e)

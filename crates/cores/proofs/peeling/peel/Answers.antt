@@ -16,6 +16,6 @@ pub returns : goal.returns
 returns g c =
     let net = g.N.Network.means c.args.network.now in
     let all : min c.vertices.result 1024 ≡ net.vertices = omega (arith, c.vertices.ensures, (g.N.Network.duties c.args.network.now).few_vertices) in (
-      kept net c.args.order.now c.args.vector.now (c.if-not-is-order.ensures.0 tt) (omega arith),
+      kept net c.args.order.now c.args.vector.now (c.if-not-is_order.ensures.0 tt) (omega arith),
       core_within_all net c.args.order.now c.args.vector.now (members c.below.result) (members c.shrink.new.group) (λ v e. c.below.ensures v ∙ ap (λ (x : ℕ). below x v) all ∙ e) c.shrink.ensures,
     )

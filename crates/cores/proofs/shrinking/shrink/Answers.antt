@@ -33,7 +33,7 @@ short : (g : given.Over) (c : goal.Joined-vertex-eq0 g) → Short g.N.Network.st
 short g c =
     let same = c.loop-i.invariant.0 ∙ c.loop-step.invariant.0 in
     let asked = c.strength.ensures ∙ ap (λ s. (g.N.Network.means c.args.network.now).strength (get_or c.args.order.now c.loop-i.i 0) (members s) c.around-vertex.result) same in
-    (c.loop-i.i, c.loop-i-test.true, omega (arith, asked, c.demand-at-demand.ensures))
+    (c.loop-i.i, c.loop-i-test.true, omega (arith, asked, c.demand_at-demand.ensures))
 
 -- the next turn begins at a vertex
 next : (g : given.Over) (c : goal.Joined-vertex-eq0 g) → c.if-vertex-eq0.first < c.vertices-vertices.result

@@ -4,17 +4,17 @@ use Rattle.tables.specs.Rows.{rows, row, RowRight}
 use Rattle.tables.proofs.Places.{row_within}
 use Rattle.tables.proofs.neighbour.checks.right_rows.Goals as goal
 
-pub row-of-row-requires : goal.row-of-row-requires
-row-of-row-requires c = row_within (rows c.args.vertices c.args.layers c.args.starts.now c.args.neighbours.now) c.requires c.loop-layer.layer c.loop-vertex.vertex (omega arith) (omega arith)
+pub row_of-row-requires : goal.row_of-row-requires
+row_of-row-requires c = row_within (rows c.args.vertices c.args.layers c.args.starts.now c.args.neighbours.now) c.requires c.loop-layer.layer c.loop-vertex.vertex (omega arith) (omega arith)
 
-pub returns-then-not-right-row : goal.returns-then-not-right-row
-returns-then-not-right-row c = (
+pub returns-then-not-right_row : goal.returns-then-not-right_row
+returns-then-not-right_row c = (
   (λ none. absurd none),
-  λ right. c.if-not-right-row.ensures.1 (rw c.row-of-row.ensures (right c.loop-layer.layer c.loop-vertex.vertex (omega arith) (omega arith))),
+  λ right. c.if-not-right_row.ensures.1 (rw c.row_of-row.ensures (right c.loop-layer.layer c.loop-vertex.vertex (omega arith) (omega arith))),
 )
 
 pub loop-vertex-preserved : goal.loop-vertex-preserved
-loop-vertex-preserved c = below_more _ _ c.loop-vertex.invariant (rw c.row-of-row.ensures at (c.if-not-right-row.ensures.0 tt))
+loop-vertex-preserved c = below_more _ _ c.loop-vertex.invariant (rw c.row_of-row.ensures at (c.if-not-right_row.ensures.0 tt))
 
 pub loop-layer-preserved : goal.loop-layer-preserved
 loop-layer-preserved c =

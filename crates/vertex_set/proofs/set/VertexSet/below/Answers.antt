@@ -8,21 +8,21 @@ use Rattle.vertex_set.proofs.set.VertexSet.below.Goals as goal
 
 pub loop-i-preserved : goal.loop-i-preserved
 loop-i-preserved c = (
-  length-set c.loop-i.words c.loop-i.i c.low-bits.result ∙ c.loop-i.invariant.0,
+  length-set c.loop-i.words c.loop-i.i c.low_bits.result ∙ c.loop-i.invariant.0,
   below_more _ _
       (λ k h. let ne : k ≢ c.loop-i.i = omega arith in rw get_or-set_other (c.loop-i.invariant.1 k h))
       (let lt : c.loop-i.i < length c.loop-i.words = omega (arith, c.loop-i.invariant.0) in
-      rw get_or-set_same (c.low-bits.ensures ∙ ap (λ (x : ℕ). 2 ^ (min x 64) - 1) c.saturating-sub.ensures)),
+      rw get_or-set_same (c.low_bits.ensures ∙ ap (λ (x : ℕ). 2 ^ (min x 64) - 1) c.saturating_sub.ensures)),
 )
 
 -- the words are those of the vertices below the length
 filled : (c : goal.After-loop-i) → Same (member c.loop-i.words) (below c.min-len.result)
 filled c = words_below c.loop-i.words c.min-len.result c.loop-i.invariant.0 (omega arith) (λ i l. c.loop-i.invariant.1 i (omega arith))
 
-pub invariant-of-result : goal.invariant-of-result
-invariant-of-result c =
+pub invariant_of-result : goal.invariant_of-result
+invariant_of-result c =
     let size = count_same (member c.loop-i.words) (below c.min-len.result) 1024 (λ v l. filled c v) ∙ count_below c.min-len.result 1024 in
-    (sixteen_words c.loop-i.words c.loop-i.invariant.0, (omega (arith, size), tt))
+    record { limited = sixteen_words c.loop-i.words c.loop-i.invariant.0; counted = omega (arith, size) }
 
 pub returns : goal.returns
 returns c v = words_below c.loop-i.words c.min-len.result c.loop-i.invariant.0 (omega arith) (λ i l. c.loop-i.invariant.1 i (omega arith)) v ∙ ap (λ (x : ℕ). below x v) c.min-len.ensures

@@ -5,13 +5,13 @@ use Rattle.vertex_set.proofs.Words.{put_in, put_in_size, sixteen_words}
 use Rattle.vertex_set.specs.Words.{member}
 use Rattle.vertex_set.proofs.set.VertexSet.insert.Goals as goal
 
-pub overflow-add-self : goal.overflow-add-self
-overflow-add-self c = omega (arith, c.args.self.now.counted, count_le (member c.args.self.now.words) 1024)
+pub overflow_add-self : goal.overflow_add-self
+overflow_add-self c = omega (arith, c.args.self.now.counted, count_le (member c.args.self.now.words) 1024)
 
-pub invariant-of-self : goal.invariant-of-self
-invariant-of-self c =
+pub invariant_of-self : goal.invariant_of-self
+invariant_of-self c =
     let size = put_in_size c.args.self.now.words c.from.result c.args.v c.from.ensures (omega arith) (omega arith) (sym c.if-fresh.ensures) in
-    (sixteen_words _ (length-set c.args.self.now.words c.from.result _ ∙ omega arith), (omega (arith, size, c.args.self.now.counted), tt))
+    record { limited = sixteen_words _ (length-set c.args.self.now.words c.from.result _ ∙ omega arith); counted = omega (arith, size, c.args.self.now.counted) }
 
 pub returns-then-fresh : goal.returns-then-fresh
 returns-then-fresh c = (

@@ -5,8 +5,8 @@ use Rattle.vertex_set.proofs.Counts.{count_same, count_none}
 use Rattle.vertex_set.proofs.Words.{member_zeros, sixteen_words}
 use Rattle.vertex_set.proofs.set.VertexSet.new.Goals as goal
 
-pub invariant-of-result : goal.invariant-of-result
-invariant-of-result c = (sixteen_words (replicate 16 0) refl, (sym (count_same (member (replicate 16 0)) none 1024 (λ v l. member_zeros 16 v) ∙ count_none 1024), tt))
+pub invariant_of-result : goal.invariant_of-result
+invariant_of-result c = record { limited = sixteen_words (replicate 16 0) refl; counted = sym (count_same (member (replicate 16 0)) none 1024 (λ v l. member_zeros 16 v) ∙ count_none 1024) }
 
 pub returns : goal.returns
 returns c = member_zeros 16

@@ -8,5 +8,5 @@ pub loop-v-preserved : goal.loop-v-preserved
 loop-v-preserved c =
     let found = c.in-Some.ensures in (
       omega (arith, ltb-true c.in-Some.v 1024 (c.args.self.now.limited c.in-Some.v found.here)),
-      rw c.in-ok-push.ensures.items (lists_more (members c.args.self.now) c.loop-v.from (vec_items c.loop-v.list) c.in-Some.v c.loop-v.invariant.1 found),
+      rw c.in_ok-push.ensures.items (lists_more (members c.args.self.now) c.loop-v.from (vec_items c.loop-v.list) c.in-Some.v c.loop-v.invariant.1 found),
     )
