@@ -1,5 +1,5 @@
 -- Ways through a tree: from parents to children, and along lines.
-use Rattle.std.specs.Prelude.{◌≡◌, ℕ, suc, ◌<◌, ◌≤◌, ◌⊎◌, ◌↔◌, List, [], ◌∷◌, length, get_or, take, Some, None, sum_by, slice_index_or}
+use Rattle.std.specs.Prelude.{◌≡◌, ℕ, suc, ◌<◌, ◌≤◌, ◌⊎◌, ◌↔◌, List, [], ◌∷◌, length, take, Some, None, sum_by, slice_index_or}
 use Rattle.std.specs.List.{flat_map, between}
 use Rattle.vertex_set.specs.Lists.{Among}
 use Rattle.trees.specs.Trees.{Family, Node, Tree, places, node_at, child_at, last_child}

@@ -1,5 +1,5 @@
 -- Counting members.
-use Rattle.std.proofs.Common.{◌≡◌, ℕ, zero, suc, ◌+◌, ◌-◌, ◌<◌, ◌≤◌, min, Bool, true, false, cond, not, ◌&&◌, T, eqb, ltb, ◌⊎◌, ◌↔◌, sym, refl, ap, ◌∙◌, ap₂, inl, inr, not-suc-le-zero, add-zero, add-suc, arith}
+use Rattle.std.proofs.Common.{◌≡◌, ℕ, zero, suc, ◌+◌, ◌<◌, ◌≤◌, min, Bool, true, false, cond, not, ◌&&◌, T, eqb, ltb, ◌⊎◌, ◌↔◌, sym, refl, ap, ◌∙◌, ap₂, inl, inr, not-suc-le-zero, add-zero, add-suc, arith}
 use Rattle.std.proofs.lemmas.Bool.{eq-eqb, eqb-true, ltb-true, lt-ltb, le-ltb, cases_lt, cases_eq, both_ways, and_from, and_left, and_right, not_from_true, not_from_false}
 use Rattle.vertex_set.proofs.Sets.{without_here, without_other}
 use Rattle.vertex_set.specs.Sets.{Set, ◌∈◌, ◌⊆◌, Same, Limited, ◌∖◌, none, below, without_vertex, count, size}
