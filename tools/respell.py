@@ -4,9 +4,10 @@
 usage: python3 tools/respell.py           at the top of a checkout: rewrites the files below crates/ in place
        python3 tools/respell.py --list    lists the names and changes nothing
 
-Renamed is what an .antt file of the repository declares: definitions, lemmas, fields and cases. The names of goals
-and of invariants, which Rattle makes, keep their dashes, as do those of the library. Functions of src/, strings and
-comments of src/ are not touched. The script stops where two names would fall together.
+Renamed is what an .antt file of the repository declares: definitions, lemmas, fields, cases, and a name that it gives
+to an import by `as`. The names of goals and of invariants, which Rattle makes, keep their dashes, as do those of the
+library. Functions of src/, strings and comments of src/ are not touched. The script stops where two names would fall
+together, or one with another word of the repository.
 """
 
 import os
@@ -16,8 +17,9 @@ import sys
 NAME = r"[A-Za-z_](?:[\w']|-(?=\w))*"
 WORD = re.compile(r"(?<![\w'-])" + NAME)
 DECLARED = re.compile(r"^ *(?:pub |abbrev |unfoldable |record |data |let )*(" + NAME + r")(?: \([^:()]*:[^=]*\)| \{[^}]*\})* : (.*)$")
+ALIAS = re.compile(r" as (" + NAME + r")(?=[},\s])")
 
-# Names that would fall together with a function of src/ or a word of the library.
+# Names whose new spelling would be that of a function of src/ or of a word of the library, found by hand.
 OTHERS = {"bit-and": "bit_of_and", "bit-xor": "bit_of_xor", "mutual-rows": "rows_are_mutual", "one-path": "path_is_one"}
 
 
@@ -38,6 +40,8 @@ def declared(root):
                 m = DECLARED.match(line)
                 if m and "-" in m.group(1) and not m.group(2).startswith("goal."):
                     names.add(m.group(1))
+                if line.startswith("use "):
+                    names |= {n for n in ALIAS.findall(line) if "-" in n}
     return names
 
 
@@ -59,8 +63,9 @@ def main(argv):
     for path in files(root, (".antt", ".rt")):
         with open(path, encoding="utf-8") as f:
             seen |= set(WORD.findall(f.read()))
-    met = sorted(n for n in names if new[n] in seen)
-    if met or len(set(new.values())) < len(names):
+    taken = list(new.values())
+    met = sorted(n for n in names if new[n] in seen or taken.count(new[n]) > 1)
+    if met:
         print("respell: these would fall together with another name: " + ", ".join(met))
         return 1
     for path in files(root, (".antt", ".rt", ".edit")):

@@ -9,7 +9,7 @@ use Rattle.tables.specs.Refusals as table
 use Rattle.tables.specs.Neighbours.{neighbour_network}
 use Rattle.weights.specs.Weights.{NoOwn, weight}
 use Rattle.weights.specs.Networks.{sum_over, weight_network}
-use Rattle.weights.specs.Refusals as weight-rule
+use Rattle.weights.specs.Refusals as weight_rule
 use Rattle.weights.specs.declared.error.WeightError.TheVariants.{Size, Length, Own}
 use Rattle.views.specs.Views.{restricted, relative}
 use Rattle.cores.specs.Cores.{Core, InCore}
@@ -36,7 +36,7 @@ alone_rules : table.EachRule alone
 unfolding row_at
 alone_rules = table_rules alone refl
 
-heavy_rules : weight-rule.EachRule heavy
+heavy_rules : weight_rule.EachRule heavy
 heavy_rules Size = omega arith
 heavy_rules Length = refl
 heavy_rules Own = own

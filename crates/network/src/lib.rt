@@ -13,7 +13,7 @@ pub trait Network {
     // The highest strength that a network of this kind can have.
     const HIGHEST: u16;
 
-    // That number, for clauses, which cannot name a constant of a type parameter.
+    // That number, for clauses.
     ghost stated: { ℕ };
 
     // What the network means.

@@ -1,5 +1,5 @@
 -- How many nodes and stored vertices a tree has, and how many it would have.
-use Rattle.std.specs.Prelude.{ℕ, ◌<◌, List, [], length, get_or, slice_index_or}
+use Rattle.std.specs.Prelude.{ℕ, ◌<◌, List, [], length, slice_index_or}
 use Rattle.cores.specs.Cores.{Order, Vector, VectorFor}
 use Rattle.trees.specs.Vectors.{raised}
 use Rattle.trees.specs.Trees.{Family, Tree, places, last}
@@ -26,7 +26,7 @@ pub record MoreStored (o : Order) (c : Family) (m : ℕ) : Type 0 where
   pub pairs : List (Vector × ℕ)
   pub more : m < length pairs
   pub apart : Apart ([], 0) pairs
-  pub fit : (i : ℕ) → i < length pairs → VectorFor o (get_or pairs i ([], 0)).0
+  pub fit : (i : ℕ) → i < length pairs → VectorFor o (slice_index_or pairs i ([], 0)).0
   pub stored : (i : ℕ) → i < length pairs → Stores o c (slice_index_or pairs i ([], 0))
 
 -- t has just as many nodes and stored vertices as the family gives

@@ -44,7 +44,7 @@ pub record Split (c : Family) (t : Tree) : Type 0 where
   pub together : (p v : ℕ) → p < places t → c (node_at t p).vector v ↔ (Among v (node_at t p).stored ⊎ ((q : ℕ) × (last_child t p ≡ Some q) × c (node_at t q).vector v))
   pub apart : (p q v : ℕ) → last_child t p ≡ Some q → Among v (node_at t p).stored → c (node_at t q).vector v → ⊥
 
--- no element stands twice in the list; d is what get_or gives past its end
+-- no element stands twice in the list; d is what slice_index_or gives past its end
 abbrev pub Apart : {A : Type 0} → A → List A → Type 0
 Apart d xs = (i j : ℕ) → i < length xs → j < length xs → slice_index_or xs i d ≡ slice_index_or xs j d → i ≡ j
 
