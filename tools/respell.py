@@ -4,8 +4,8 @@
 usage: python3 tools/respell.py           at the top of a checkout: rewrites the files below crates/ in place
        python3 tools/respell.py --list    lists the names and changes nothing
 
-Renamed is what an .antt file of the repository declares: definitions, lemmas, fields, cases, and a name that it gives
-to an import by `as`. The names of goals and of invariants, which Rattle makes, keep their dashes, as do those of the
+Renamed is what an .antt file of the repository declares: definitions, lemmas, fields, cases, what a `let` gives
+a type, and a name that it gives to an import by `as`. The names of goals and of invariants, which Rattle makes, keep their dashes, as do those of the
 library. Functions of src/, strings and comments of src/ are not touched. The script stops where two names would fall
 together, or one with another word of the repository.
 """

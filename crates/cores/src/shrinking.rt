@@ -39,7 +39,8 @@ pub fn shrink<N: Network>(network: &N, order: &[u8], vector: &[u16], group: &mut
 
 // The vertex that comes so many steps after the first, going round.
 fn around(first: u16, step: u16, vertices: u16) -> u16
-    requires { (first < vertices) × (step < vertices) }
+    requires first_within { first < vertices }
+    requires step_within { step < vertices }
     ensures { result ≡ (first + step) % vertices }
 {
     let left = vertices - first;

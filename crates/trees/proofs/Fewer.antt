@@ -84,7 +84,7 @@ module _ (n : ℕ) (t : Tree) (w : Coherent n t) where
             let top = highest (suc (all_demands t)) k 0 v (long k e) (omega arith) (subst (λ (j : Vector). Recorded t j v) (inserted_ending k at end) q) in
             (ending k top.0, length_ending k top.0 ∙ long k e, top.1, removed_ending k top.0 at end)
 
-    -- the vector at q in t is that at p in u, with demand 0 on the layer
+    -- the vector at q in t is that at p in u, with nothing demanded on the layer
     abbrev Keeps : ℕ → ℕ → Type 0
     Keeps p q = (node_at t q).vector ≡ insert (node_at u p).vector at 0
 

@@ -1,6 +1,6 @@
 -- Parents and children, and the paths from the root.
 use Rattle.std.proofs.Common.{◌≡◌, ℕ, zero, suc, ◌+◌, ◌<◌, ◌≤◌, ◌⊎◌, List, [], ◌∷◌, ◌++◌, length, get_or, Some, None, Option, sym, refl, ap, ◌∙◌, subst, ap₂, inl, inr, le_trans, not-suc-le-zero, arith, length-set}
-use Rattle.std.proofs.lemmas.Bool.{cases_lt, cases_order}
+use Rattle.std.proofs.lemmas.Bool.{cases_lt, cases_eq, cases_order}
 use Rattle.std.proofs.lemmas.List.{get_or_past, ext_get_or}
 use Rattle.cores.specs.Cores.{Order, Vector, VectorFor}
 use Rattle.trees.specs.Vectors.{raised, Before, lnz}
@@ -146,15 +146,14 @@ module _ (c : Family) (t : Tree) (r : TreeOf c t) where
           go (inr (inr l)) = absurd (not_behind p' i' p i f e l)
 
       same_vector : (node_at t p').vector ≡ (node_at t p).vector
-      same_vector = ext_get_or 0 (node_at t p').vector (node_at t p).vector (r.fits p' n.0 ∙ sym (r.fits p m.0)) (λ j l. go j (cases_order j i))
+      same_vector = ext_get_or 0 (node_at t p').vector (node_at t p).vector (r.fits p' n.0 ∙ sym (r.fits p m.0)) (λ j l. go j (cases_eq j i))
         where
           f' : Parent t q p' i
           f' = subst (λ (x : ℕ). Parent t q p' x) (sym position) f
 
-          go : (j : ℕ) → (j ≡ i) ⊎ ((j < i) ⊎ (i < j)) → get_or (node_at t p').vector j 0 ≡ get_or (node_at t p).vector j 0
+          go : (j : ℕ) → (j ≡ i) ⊎ (j ≡ i → ⊥) → get_or (node_at t p').vector j 0 ≡ get_or (node_at t p).vector j 0
           go j (inl h) = rw h (omega (arith, at_position p q i e, at_position p' q i f'))
-          go j (inr (inl l)) = sym (elsewhere p' q i j f' (λ h. absurd (omega arith))) ∙ elsewhere p q i j e (λ h. absurd (omega arith))
-          go j (inr (inr l)) = sym (elsewhere p' q i j f' (λ h. absurd (omega arith))) ∙ elsewhere p q i j e (λ h. absurd (omega arith))
+          go j (inr d) = sym (elsewhere p' q i j f' d) ∙ elsewhere p q i j e d
 
   leads_on : {p q s : ℕ} {is : List ℕ} (i : ℕ) → Leads t p is q → Parent t s q i → Leads t p (is ++ i ∷ []) s
   leads_on i arrived e = step e arrived

@@ -11,7 +11,7 @@ use Rattle.trees.specs.Walks.{Along}
 abbrev pub Recorded : Tree → Family
 Recorded t k v = (p : ℕ) × Stands t k p × Along t p v
 
--- the cores after the layer l of g came in front of t: for demand 0 on it those that t records, for any other those of g
+-- the cores after the layer l of g came in front of t: where nothing is demanded on it those that t records, else those of g
 abbrev pub with_layer : Multilayer → ℕ → Tree → Family
 with_layer g l t [] v = ⊥
 with_layer g l t (zero ∷ k) v = Recorded t k v
@@ -22,7 +22,7 @@ pub record PutInFront (g : Multilayer) (l : ℕ) (t t' : Tree) : Type 0 where
   pub order : t'.order ≡ l ∷ t.order
   pub tree : TreeOf (with_layer g l t) t'
 
--- the cores after the layer at i of the order went: those that t records for demand 0 on it
+-- the cores after the layer at i of the order went: those that t records where nothing is demanded on it
 abbrev pub without_layer : ℕ → Tree → Family
 without_layer i t k v = Recorded t (insert k i 0) v
 

@@ -12,7 +12,7 @@ use Rattle.cores.proofs.shrinking.shrink.Goals as goal
 use Rattle.cores.proofs.shrinking.shrink.Goals.{then-vertex-eq0, else-vertex-eq0}
 
 pub around-vertex-requires : goal.around-vertex-requires
-around-vertex-requires g c = (omega (arith, c.loop-step.invariant.1, c.turn.invariant.0), c.loop-step-test.true)
+around-vertex-requires g c = record { first_within = omega (arith, c.loop-step.invariant.1, c.turn.invariant.0); step_within = c.loop-step-test.true }
 
 -- the vertex that falls short is a member of the group as the turn began
 member : (g : given.Over) (c : goal.Joined-vertex-eq0 g) → c.around-vertex.result ∈ members c.turn.group
