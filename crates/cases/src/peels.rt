@@ -1,25 +1,22 @@
 // Cores, and what peeling refuses.
 
-use crate::sample::{four, table};
+use crate::sample::{four, made, refused};
 use cores::peel;
 use network::Network;
 use std::test::Fail;
 use tables::NeighbourTable;
 use vertex_set::VertexSet;
 
-// Peels into a group that holds 9 alone; 0 for a core, or the number of the refusal.
+// Peels into a group that holds 9 alone, and gives the number of the refusal, if it is refused.
 fn peeled(
     network: &NeighbourTable,
     order: &[u8],
     vector: &[u16],
     group: &mut VertexSet,
-) -> Result<u8, Fail> {
+) -> Result<Option<u8>, Fail> {
     *group = VertexSet::new();
     group.insert(9)?;
-    match peel(network, order, vector, group) {
-        Ok(()) => Ok(0),
-        Err(e) => Ok(e.number()),
-    }
+    Ok(refused(peel(network, order, vector, group)))
 }
 
 #[test]
@@ -39,12 +36,12 @@ fn strengths(rt: HostRuntime) -> Result<(), Fail> {
 fn refusals(rt: HostRuntime) -> Result<(), Fail> {
     let network = four(rt.alloc())?;
     let mut group = VertexSet::new();
-    assert_eq!(rt; peeled(&network, &[], &[1], &mut group)?, 6);
-    assert_eq!(rt; peeled(&network, &[0, 0], &[1, 1], &mut group)?, 6);
-    assert_eq!(rt; peeled(&network, &[0, 2], &[1], &mut group)?, 6);
-    assert_eq!(rt; peeled(&network, &[0, 1], &[1], &mut group)?, 8);
+    assert_eq!(rt; peeled(&network, &[], &[1], &mut group)?, Some(6));
+    assert_eq!(rt; peeled(&network, &[0, 0], &[1, 1], &mut group)?, Some(6));
+    assert_eq!(rt; peeled(&network, &[0, 2], &[1], &mut group)?, Some(6));
+    assert_eq!(rt; peeled(&network, &[0, 1], &[1], &mut group)?, Some(8));
     assert!(rt; group.contains(9) && group.len() == 1);
-    assert_eq!(rt; peeled(&network, &[1, 0], &[1, 1], &mut group)?, 0);
+    assert_eq!(rt; peeled(&network, &[1, 0], &[1, 1], &mut group)?, None);
     assert!(rt; group.contains(0) && group.contains(1) && group.len() == 2);
     Ok(())
 }
@@ -52,11 +49,11 @@ fn refusals(rt: HostRuntime) -> Result<(), Fail> {
 // 0 has two neighbours until 1 and 2, who have one each, are gone.
 #[test]
 fn unravels(rt: HostRuntime) -> Result<(), Fail> {
-    let star = table(rt.alloc(), 3, 1, &[0, 2, 3, 4], &[1, 2, 0, 0])?;
+    let star = made(rt.alloc(), 3, 1, &[0, 2, 3, 4], &[1, 2, 0, 0])??;
     let mut group = VertexSet::new();
-    assert_eq!(rt; peeled(&star, &[0], &[2], &mut group)?, 0);
+    assert_eq!(rt; peeled(&star, &[0], &[2], &mut group)?, None);
     assert!(rt; group.is_empty());
-    assert_eq!(rt; peeled(&star, &[0], &[1], &mut group)?, 0);
+    assert_eq!(rt; peeled(&star, &[0], &[1], &mut group)?, None);
     assert_eq!(rt; group.len(), 3);
     Ok(())
 }

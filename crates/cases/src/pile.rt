@@ -1,7 +1,7 @@
-ghost use Rattle.std.specs.Prelude.{◌≡◌, MatchResult};
+ghost use Rattle.std.specs.Prelude.{◌≡◌, OnOk, IfErr, OnErr};
 ghost use Rattle.vertex_set.specs.Members.{members};
 ghost use Rattle.vertex_set.specs.Refusals.{FirstBroken};
-ghost use Rattle.weights.specs.Networks.{weights_of};
+ghost use Rattle.weights.specs.WeightTable.{weights_of};
 ghost use Rattle.cores.specs.Cores.{Core};
 ghost use Rattle.cores.specs.Refusals.{refusal, Rule, EachRule};
 ghost use Rattle.cases.specs.Piles.{pile};
@@ -21,11 +21,16 @@ pub(crate) fn peel_pile(
     vector: &[u16],
     group: &mut VertexSet,
 ) -> Result<(), PeelError>
-    ensures { MatchResult result
-        (λ _. EachRule (pile (members lower) (members upper) (weights_of table.now)) order.now vector.now
-        × Core (pile (members lower) (members upper) (weights_of table.now)) order.now vector.now (members group.new))
-        (λ e. FirstBroken refusal (Rule (pile (members lower) (members upper) (weights_of table.now)) order.now vector.now) e
-        × (group.new ≡ group.old)) }
+    ensures kept { OnOk result
+        (EachRule (pile (members lower) (members upper) (weights_of table.now))
+        order.now vector.now) }
+    ensures core { OnOk result
+        (Core (pile (members lower) (members upper) (weights_of table.now))
+        order.now vector.now (members group.new)) }
+    ensures err { IfErr result
+        (FirstBroken refusal (Rule (pile (members lower) (members upper) (weights_of table.now))
+        order.now vector.now)) }
+    ensures unchanged { OnErr result (group.new ≡ group.old) }
 {
     let restricted = Restricted::new(table, lower);
     let relative = Relative::new(&restricted);

@@ -1,7 +1,7 @@
 // Sets at the edges of their words and of their range.
 
 use std::test::Fail;
-use vertex_set::{SetError, VertexSet};
+use vertex_set::{Refusal, SetError, VertexSet};
 
 #[test]
 fn edges(rt: HostRuntime) -> Result<(), Fail> {

@@ -1,32 +1,53 @@
 // Each refusal of a table, the smaller number first, and tables at their limits.
 
-use crate::sample::verdict;
+use crate::sample::{made, refused};
 use std::test::Fail;
 
 #[test]
-fn refusals(rt: HostRuntime) -> Result<(), Fail> {
+fn sizes(rt: HostRuntime) -> Result<(), Fail> {
     let heap = rt.alloc();
-    assert_eq!(rt; verdict(heap, 0, 1, &[0], &[])?, 1);
-    assert_eq!(rt; verdict(heap, 1025, 1, &[0], &[])?, 1);
-    assert_eq!(rt; verdict(heap, 1, 0, &[0], &[])?, 1);
-    assert_eq!(rt; verdict(heap, 1, 7, &[0], &[])?, 1);
-    assert_eq!(rt; verdict(heap, 2, 1, &[0, 1], &[1])?, 2);
-    assert_eq!(rt; verdict(heap, 2, 1, &[1, 1, 1], &[1])?, 2);
-    assert_eq!(rt; verdict(heap, 3, 1, &[0, 2, 1, 2], &[1, 2])?, 2);
-    assert_eq!(rt; verdict(heap, 2, 1, &[0, 1, 1], &[1, 0])?, 2);
+    for (vertices, layers) in [(0, 1), (1025, 1), (1, 0), (1, 7)] {
+        let outcome = made(heap, vertices, layers, &[0], &[])?;
+        assert_eq!(rt; refused(outcome), Some(1));
+    }
+    Ok(())
+}
+
+#[test]
+fn shapes(rt: HostRuntime) -> Result<(), Fail> {
+    let heap = rt.alloc();
+    assert_eq!(rt; refused(made(heap, 2, 1, &[0, 1], &[1])?), Some(2));
+    assert_eq!(rt; refused(made(heap, 2, 1, &[1, 1, 1], &[1])?), Some(2));
+    assert_eq!(rt; refused(made(heap, 3, 1, &[0, 2, 1, 2], &[1, 2])?), Some(2));
+    assert_eq!(rt; refused(made(heap, 2, 1, &[0, 1, 1], &[1, 0])?), Some(2));
     Ok(())
 }
 
 #[test]
 fn rows(rt: HostRuntime) -> Result<(), Fail> {
     let heap = rt.alloc();
-    assert_eq!(rt; verdict(heap, 3, 1, &[0, 2, 3, 4], &[2, 1, 0, 0])?, 3);
-    assert_eq!(rt; verdict(heap, 3, 1, &[0, 2, 3, 4], &[1, 1, 0, 0])?, 3);
-    assert_eq!(rt; verdict(heap, 2, 1, &[0, 1, 2], &[2, 0])?, 3);
-    assert_eq!(rt; verdict(heap, 2, 1, &[0, 1, 2], &[0, 0])?, 3);
-    assert_eq!(rt; verdict(heap, 2, 1, &[0, 1, 1], &[1])?, 4);
-    assert_eq!(rt; verdict(heap, 3, 1, &[0, 1, 1, 2], &[1, 0])?, 4);
-    assert_eq!(rt; verdict(heap, 1, 6, &[0, 0, 0, 0, 0, 0, 0], &[])?, 0);
-    assert_eq!(rt; verdict(heap, 2, 1, &[0, 1, 2], &[1, 0])?, 0);
+    assert_eq!(rt;
+        refused(made(heap, 3, 1, &[0, 2, 3, 4], &[2, 1, 0, 0])?),
+        Some(3)
+    );
+    assert_eq!(rt;
+        refused(made(heap, 3, 1, &[0, 2, 3, 4], &[1, 1, 0, 0])?),
+        Some(3)
+    );
+    assert_eq!(rt; refused(made(heap, 2, 1, &[0, 1, 2], &[2, 0])?), Some(3));
+    assert_eq!(rt; refused(made(heap, 2, 1, &[0, 1, 2], &[0, 0])?), Some(3));
+    Ok(())
+}
+
+#[test]
+fn mutual(rt: HostRuntime) -> Result<(), Fail> {
+    let heap = rt.alloc();
+    assert_eq!(rt; refused(made(heap, 2, 1, &[0, 1, 1], &[1])?), Some(4));
+    assert_eq!(rt; refused(made(heap, 3, 1, &[0, 1, 1, 2], &[1, 0])?), Some(4));
+    assert_eq!(rt;
+        refused(made(heap, 1, 6, &[0, 0, 0, 0, 0, 0, 0], &[])?),
+        None
+    );
+    assert_eq!(rt; refused(made(heap, 2, 1, &[0, 1, 2], &[1, 0])?), None);
     Ok(())
 }

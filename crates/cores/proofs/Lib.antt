@@ -1,2 +1,2 @@
 pub mod Theory
-pub mod Rounds
+pub mod Searches

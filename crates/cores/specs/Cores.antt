@@ -25,6 +25,20 @@ VectorFor o k = length k ≡ length o
 abbrev pub Strong : Multilayer → Order → Vector → Set → ℕ → Type 0
 Strong g o k s v = (i : ℕ) → i < length o → slice_index k i ≤ g.strength (slice_index o i) s v
 
+-- v falls short within s: in some layer of the order it has less than the demanded strength
+abbrev pub Short : Multilayer → Order → Vector → Set → ℕ → Type 0
+Short g o k s v = (i : ℕ) × (i < length o) × (g.strength (slice_index o i) s v < slice_index k i)
+
+-- v is a vertex of the network and a member of s, and falls short within s
+pub record Weak (g : Multilayer) (o : Order) (k : Vector) (s : Set) (v : ℕ) : Type 0 where
+  pub within : v < g.vertices
+  pub here : v ∈ s
+  pub short : Short g o k s v
+
+-- each vertex of the network that is a member of s is strong within s
+abbrev pub EachStrong : Multilayer → Order → Vector → Set → Type 0
+EachStrong g o k s = (v : ℕ) → v < g.vertices → v ∈ s → Strong g o k s v
+
 -- the group s meets the vector k: it has only vertices of the network, each of them strong within s
 pub record Meets (g : Multilayer) (o : Order) (k : Vector) (s : Set) : Type 0 where
   pub inside : s ⊆ below g.vertices

@@ -1,23 +1,24 @@
-ghost use Rattle.std.specs.Prelude.{◌≡◌};
 ghost use Rattle.cores.specs.Refusals.{refusal};
+
+use vertex_set::Refusal;
 
 // Why there is no core to peel.
 #[derive(Clone, Copy, PartialEq, Eq, Debug)]
 pub enum PeelError {
     // The order is empty, repeats a layer, or has one that the network lacks.
-    Order,
+    Order = 6,
     // The vector has not one demand for each layer of the order.
-    Vector,
+    Vector = 8,
 }
 
-impl PeelError {
-    // The refusal's number.
-    pub fn number(self) -> u8
-        ensures { result ≡ refusal self }
-    {
-        match self {
-            PeelError::Order => 6,
-            PeelError::Vector => 8,
-        }
+impl Refusal for PeelError {
+    ghost use Rattle.std.proofs.Common.{arith};
+
+    ghost refusal = { refusal };
+
+    ghost apart = { λ d e same. Prim.grind arith };
+
+    fn number(self) -> u8 {
+        self as u8
     }
 }

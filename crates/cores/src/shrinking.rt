@@ -1,6 +1,6 @@
-ghost use Rattle.std.specs.Prelude.{◌≡◌, ◌+◌, ◌%◌, ◌<◌, slice_index};
+ghost use Rattle.std.specs.Prelude.{◌↔◌, IsTrue, IfNone, IfSome};
 ghost use Rattle.vertex_set.specs.Members.{members};
-ghost use Rattle.cores.specs.Cores.{CoreWithin};
+ghost use Rattle.cores.specs.Cores.{CoreWithin, Short, Weak, EachStrong};
 
 use network::Network;
 use vertex_set::VertexSet;
@@ -9,51 +9,49 @@ use vertex_set::VertexSet;
 // is the largest group within it that meets the vector; so a group that contains the core becomes
 // the core. A demand that the vector lacks counts as 0.
 pub fn shrink<N: Network>(network: &N, order: &[u8], vector: &[u16], group: &mut VertexSet)
-    ensures { CoreWithin (N.Network.means network.now) order.now vector.now (members group.old) (members group.new) }
+    ensures { CoreWithin (N.Network.means network.now) order.now vector.now
+        (members group.old) (members group.new) }
 {
     let vertices = network.vertices();
     *group = group.intersection(&VertexSet::below(vertices));
     let mut first = 0;
-    'turn: loop {
-        for step in 0..vertices {
-            let vertex = around(first, step, vertices);
-            if !group.contains(vertex) {
-                continue;
-            }
-            for (i, layer) in order.iter().enumerate() {
-                let demand = demand_at(vector, i);
-                if demand > 0 && network.strength(*layer, group, vertex) < demand {
-                    group.remove(vertex);
-                    first = if vertex == 0 {
-                        vertices - 1
-                    } else {
-                        vertex - 1
-                    };
-                    continue 'turn;
-                }
-            }
-        }
-        return;
+    while let Some(vertex) = weak_from(network, order, vector, group, first) {
+        group.remove(vertex);
+        first = vertex.saturating_sub(1);
     }
 }
 
-// The vertex that comes so many steps after the first, going round.
-fn around(first: u16, step: u16, vertices: u16) -> u16
-    requires first_within { first < vertices }
-    requires step_within { step < vertices }
-    ensures { result ≡ (first + step) % vertices }
+// A member that falls short in a layer, if there is one: the first met going round from `first`.
+// (Network, order, vector and group stay apart here: through a struct each clause would be longer.)
+fn weak_from<N: Network>(
+    network: &N,
+    order: &[u8],
+    vector: &[u16],
+    group: &VertexSet,
+    first: u16,
+) -> Option<u16>
+    ensures none { IfNone result
+        (EachStrong (N.Network.means network.now) order.now vector.now (members group.now)) }
+    ensures some { IfSome result
+        (Weak (N.Network.means network.now) order.now vector.now (members group.now)) }
 {
-    let left = vertices - first;
-    if step < left {
-        first + step
-    } else {
-        step - left
-    }
+    let vertices = network.vertices();
+    let mut round = (first..vertices).chain(0..first.min(vertices));
+    round.find(|v| group.contains(*v) && is_weak(network, order, vector, group, *v))
 }
 
-// The demand at a place of the vector, or 0 past its end.
-fn demand_at(vector: &[u16], i: usize) -> u16
-    ensures { result ≡ slice_index vector.now i }
+// Whether the vertex falls short of a demand in its layer.
+fn is_weak<N: Network>(
+    network: &N,
+    order: &[u8],
+    vector: &[u16],
+    group: &VertexSet,
+    vertex: u16,
+) -> bool
+    ensures { IsTrue result
+        ↔ Short (N.Network.means network.now) order.now vector.now (members group.now) vertex }
 {
-    if i < vector.len() { vector[i] } else { 0 }
+    order.iter().zip(vector).any(|(layer, demand)| {
+        *demand > 0 && network.strength(*layer, group, vertex) < *demand
+    })
 }

@@ -9,7 +9,8 @@ use Rattle.vertex_set.specs.Sets.{Set, ◌∈◌}
 use Rattle.vertex_set.specs.Lists.{elements}
 use Rattle.vertex_set.proofs.Elements.{among_from}
 use Rattle.network.specs.Networks.{Duties}
-use Rattle.tables.specs.Rows.{Rows, Sized, Shaped, RowsRight, MutualRows, row}
+use Rattle.network.specs.Sizes.{WithinLimits}
+use Rattle.tables.specs.Rows.{Rows, Shaped, RowsRight, MutualRows, row}
 use Rattle.tables.specs.Neighbours.{neighbours_in, neighbour_network}
 use Rattle.tables.specs.Refusals.{EachRule}
 use Rattle.tables.specs.Duties.{neighbour_duties}
@@ -63,7 +64,7 @@ mutual_test t l v = list_all (λ u. elements (row t l u) v) (row t l v)
 abbrev pub table_test : Rows → Bool
 table_test t = sized_test t && (shaped_test t && (each_row t (right_test t) && each_row t (mutual_test t)))
 
-sized : (t : Rows) → sized_test t ≡ true → Sized t
+sized : (t : Rows) → sized_test t ≡ true → WithinLimits 1024 t.vertices t.layers
 sized t e =
     let a = and_parts (leb 1 t.vertices) _ e in
     let b = and_parts (leb t.vertices 1024) _ a.1 in
@@ -110,7 +111,8 @@ table_rules t e Mutual = rows_are_mutual t (and_parts (each_row t (right_test t)
 -- a table with rows of at most m neighbours has the duties with m for the highest strength
 pub table_duties : (t : Rows) (m : ℕ) → table_test t ≡ true → each_row t (λ l v. leb (length (row t l v)) m) ≡ true → m ≤ 65535 → Duties m (neighbour_network t)
 table_duties t m e short few =
-    let d = neighbour_duties t ∣ table_rules t e ∣₁ in
+    let rules = table_rules t e in
+    let d = neighbour_duties t (rules Size) (rules Row) in
     record {
       stated = few;
       some_vertices = d.some_vertices;

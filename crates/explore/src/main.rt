@@ -5,13 +5,13 @@
 
 mod show;
 
-use anyhow::anyhow;
+use anyhow::bail;
 use cores::peel;
 use network::Network;
 use show::Numbers;
 use std::alloc::{AllocError, Global};
 use tables::{NeighbourTable, TableError};
-use vertex_set::VertexSet;
+use vertex_set::{Refusal, VertexSet};
 use views::{Relative, Restricted};
 use weights::WeightTable;
 
@@ -37,9 +37,9 @@ fn main(rt: HostRuntime) -> anyhow::Result<()> {
     run(&rt)
 }
 
-fn run(rt: &HostRuntime) -> anyhow::Result<()> {
+fn run(rt: &(impl Print + Alloc<A = Global>)) -> anyhow::Result<()> {
     let Ok(network) = sample(rt.alloc(), &STARTS, &NEIGHBOURS)? else {
-        return Err(anyhow!("the sample network is refused"));
+        bail!("the sample network is refused");
     };
     for vector in VECTORS {
         show_core(rt, &network, &[0, 1], &vector)?;
@@ -49,7 +49,8 @@ fn run(rt: &HostRuntime) -> anyhow::Result<()> {
     show_refusals(rt, &network)
 }
 
-// The table of the sample's vertices and layers with the given rows.
+// The table of the sample's vertices and layers with the given rows. (The tests have one like it, of
+// any size: a crate for the two would be longer than they are.)
 fn sample(
     heap: Global,
     starts: &[u32],
@@ -60,7 +61,7 @@ fn sample(
     Ok(NeighbourTable::new(4, 2, starts, neighbours))
 }
 
-// The vertices 0, 1 and 3.
+// The vertices 0, 1 and 3. (The tests have the same: a crate for it would be longer than it is.)
 fn without_two() -> VertexSet {
     let mut group = VertexSet::below(4);
     group.remove(2);
@@ -68,7 +69,10 @@ fn without_two() -> VertexSet {
 }
 
 // Cores over the sample network restricted to 0, 1 and 3, and over it in relative strengths.
-fn show_views(rt: &HostRuntime, network: &NeighbourTable) -> anyhow::Result<()> {
+fn show_views(
+    rt: &(impl Print + Alloc<A = Global>),
+    network: &NeighbourTable,
+) -> anyhow::Result<()> {
     let restricted = Restricted::new(network, without_two());
     print!(rt; "restricted to 0,1,3: ")?;
     show_core(rt, &restricted, &[0, 1], &[1, 0])?;
@@ -78,13 +82,13 @@ fn show_views(rt: &HostRuntime, network: &NeighbourTable) -> anyhow::Result<()> 
 }
 
 // Cores over weights, and over a pile of views of them.
-fn show_weights(rt: &HostRuntime) -> anyhow::Result<()> {
+fn show_weights(rt: &(impl Print + Alloc<A = Global>)) -> anyhow::Result<()> {
     let mut weights = Vec::new(rt.alloc());
     for row in WEIGHTS {
         weights.extend_from_slice(&row)?;
     }
     let Ok(table) = WeightTable::new(4, 1, weights) else {
-        return Err(anyhow!("the sample weights are refused"));
+        bail!("the sample weights are refused");
     };
     print!(rt; "weights: ")?;
     show_core(rt, &table, &[0], &[350])?;
@@ -97,32 +101,42 @@ fn show_weights(rt: &HostRuntime) -> anyhow::Result<()> {
 
 // A table with a tie that only one side names, weights with an own weight, and an order that
 // repeats a layer.
-fn show_refusals(rt: &HostRuntime, network: &NeighbourTable) -> anyhow::Result<()> {
+fn show_refusals(
+    rt: &(impl Print + Alloc<A = Global>),
+    network: &NeighbourTable,
+) -> anyhow::Result<()> {
     print!(rt; "a tie on one side: ")?;
-    match sample(rt.alloc(), &ONE_SIDED, &NEIGHBOURS[0..9])? {
-        Ok(_) => println!(rt; "accepted")?,
-        Err(e) => println!(rt; "refused={}", e.number())?,
-    }
+    show_outcome(rt, sample(rt.alloc(), &ONE_SIDED, &NEIGHBOURS[0..9])?)?;
     print!(rt; "an own weight: ")?;
-    match WeightTable::new(1, 1, Vec::from_slice(rt.alloc(), &[1])?) {
-        Ok(_) => println!(rt; "accepted")?,
-        Err(e) => println!(rt; "refused={}", e.number())?,
-    }
+    let own = Vec::from_slice(rt.alloc(), &[1])?;
+    show_outcome(rt, WeightTable::new(1, 1, own))?;
     print!(rt; "the order aa: ")?;
     show_core(rt, network, &[0, 0], &[1, 1])
 }
 
+// Prints whether something was accepted, or else the number of the refusal.
+fn show_outcome<T: Drop, E: Refusal + Drop>(
+    rt: &impl Print,
+    outcome: Result<T, E>,
+) -> anyhow::Result<()> {
+    match outcome {
+        Ok(_) => println!(rt; "accepted")?,
+        Err(e) => println!(rt; "refused={}", e.number())?,
+    }
+    Ok(())
+}
+
 // Prints the vector with its core, or the number of the refusal.
 fn show_core<N: Network>(
-    rt: &HostRuntime,
+    rt: &(impl Print + Alloc<A = Global>),
     network: &N,
     order: &[u8],
     vector: &[u16],
 ) -> anyhow::Result<()> {
     let mut core = VertexSet::new();
-    if let Err(e) = peel(network, order, vector, &mut core) {
-        println!(rt; "refused={}", e.number())?;
-        return Ok(());
+    let outcome = peel(network, order, vector, &mut core);
+    if outcome.is_err() {
+        return show_outcome(rt, outcome);
     }
     if core.is_empty() {
         println!(rt; "core={}:none", Numbers(vector))?;

@@ -8,19 +8,21 @@ ghost use Rattle.vertex_set.specs.Members.{members};
 
 use vertex_set::VertexSet;
 
+mod size;
+
+pub use size::Size;
+
 // A network of vertices 0 to n - 1, tied in several layers, which are numbered from 0.
 pub trait Network {
     // The highest strength that a network of this kind can have.
     const HIGHEST: u16;
 
-    // That number, for clauses.
+    // That number, for clauses. (A ghost member of the constant's name would be proved equal to it,
+    // but not in an impl that has a type parameter, as a view's.)
     ghost stated: { ℕ };
 
     // What the network means.
     ghost means: { Self → Multilayer };
-
-    // That its meaning keeps the duties.
-    ghost duties: { (x : Self) → Duties stated (means x) };
 
     // The constant again. Generic code asks this function and not the constant, since only its
     // answer is tied to the number that the duties speak of.
@@ -38,4 +40,7 @@ pub trait Network {
     // How strongly the vertex is tied, in the layer, to the group.
     fn strength(&self, layer: u8, group: &VertexSet, vertex: u16) -> u16
         ensures { result ≡ (means self.now).strength layer (members group.now) vertex };
+
+    // That its meaning keeps the duties.
+    ghost duties: { (x : Self) → Duties stated (means x) };
 }

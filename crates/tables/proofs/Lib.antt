@@ -1,5 +1,5 @@
-pub mod Searched
 pub mod Places
-pub mod Passed
-pub mod Mutual
+pub mod Searched
+pub mod Tests
 pub mod Broken
+pub mod Facts

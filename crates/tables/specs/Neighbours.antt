@@ -1,13 +1,14 @@
 -- What a neighbour table means.
-use Rattle.std.specs.Prelude.{ℕ, cond, ◌&&◌, vec_items, count_by, nat_lt}
+use Rattle.std.specs.Prelude.{ℕ, cond, ◌&&◌, count_by, nat_lt}
 use Rattle.vertex_set.specs.Sets.{Set}
 use Rattle.network.specs.Networks.{Multilayer}
-use Rattle.tables.specs.Rows.{Rows, rows, row}
+use Rattle.tables.specs.Rows.{Rows, row}
+use Rattle.tables.specs.Right.{right_rows}
 use Rattle.tables.specs.declared.neighbour.NeighbourTable.{NeighbourTable}
 
 -- what the table was made of
 abbrev pub rows_of : NeighbourTable → Rows
-rows_of t = rows t.vertices t.layers (vec_items t.starts) (vec_items t.neighbours)
+rows_of t = right_rows t.rows
 
 -- the number of v's neighbours in the group s, in the layer l; none in a layer, or of a vertex, that the table lacks
 abbrev pub neighbours_in : Rows → ℕ → Set → ℕ → ℕ

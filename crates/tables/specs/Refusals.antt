@@ -1,6 +1,7 @@
 -- The rules of a table and the numbers of their refusals.
 use Rattle.std.specs.Prelude.{ℕ}
-use Rattle.tables.specs.Rows.{Rows, Sized, Shaped, RowsRight, MutualRows}
+use Rattle.network.specs.Sizes.{WithinLimits}
+use Rattle.tables.specs.Rows.{Rows, Shaped, RowsRight, MutualRows}
 use Rattle.tables.specs.declared.error.TableError.{TableError}
 use Rattle.tables.specs.declared.error.TableError.TheVariants.{Size, Shape, Row, Mutual}
 
@@ -13,7 +14,7 @@ refusal Mutual = 4
 
 -- the rule whose break each error reports
 abbrev pub Rule : Rows → TableError → Type 0
-Rule t Size = Sized t
+Rule t Size = WithinLimits 1024 t.vertices t.layers
 Rule t Shape = Shaped t
 Rule t Row = RowsRight t
 Rule t Mutual = MutualRows t

@@ -26,10 +26,6 @@ row t l v = row_at t.starts t.neighbours (l * t.vertices + v)
 abbrev pub Within : List ℕ → List ℕ → ℕ → Type 0
 Within starts neighbours r = (r + 1 < length starts) × (slice_index starts r ≤ slice_index starts (r + 1)) × (slice_index starts (r + 1) ≤ length neighbours)
 
--- there are 1 to 1,024 vertices and 1 to 6 layers
-abbrev pub Sized : Rows → Type 0
-Sized t = (1 ≤ t.vertices) × (t.vertices ≤ 1024) × (1 ≤ t.layers) × (t.layers ≤ 6)
-
 -- each row has a start, and the last one an end; the starts begin with 0, never fall and end with the length of the list, which is at most 65,536
 abbrev pub Shaped : Rows → Type 0
 Shaped t = (length t.starts ≡ t.layers * t.vertices + 1)
@@ -44,6 +40,10 @@ pub record RowRight (n v : ℕ) (xs : List ℕ) : Type 0 where
   pub inside : (i : ℕ) → i < length xs → slice_index xs i < n
   pub others : (i : ℕ) → i < length xs → slice_index xs i ≢ v
 
+-- the row of each vertex in the layer l is right
+pub record RightLayer (t : Rows) (l : ℕ) : Type 0 where
+  pub each : (v : ℕ) → v < t.vertices → RowRight t.vertices v (row t l v)
+
 -- the row of each vertex in each layer is right
 abbrev pub RowsRight : Rows → Type 0
 RowsRight t = (l v : ℕ) → l < t.layers → v < t.vertices → RowRight t.vertices v (row t l v)
@@ -51,6 +51,10 @@ RowsRight t = (l v : ℕ) → l < t.layers → v < t.vertices → RowRight t.ver
 -- each neighbour of v in the layer l has v for its neighbour there
 abbrev pub MutualRow : Rows → ℕ → ℕ → Type 0
 MutualRow t l v = (u : ℕ) → u ∈ elements (row t l v) → v ∈ elements (row t l u)
+
+-- each row of the layer l is mutual
+pub record MutualLayer (t : Rows) (l : ℕ) : Type 0 where
+  pub each : (v : ℕ) → v < t.vertices → MutualRow t l v
 
 -- each row is mutual
 abbrev pub MutualRows : Rows → Type 0

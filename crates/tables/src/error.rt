@@ -1,29 +1,28 @@
-ghost use Rattle.std.specs.Prelude.{◌≡◌};
 ghost use Rattle.tables.specs.Refusals.{refusal};
+
+use vertex_set::Refusal;
 
 // Why no table is made of what was given.
 #[derive(Clone, Copy, PartialEq, Eq, Debug)]
 pub enum TableError {
     // The number of vertices or of layers is outside its limits.
-    Size,
+    Size = 1,
     // The starts or the list of neighbours have not the right length or shape.
-    Shape,
+    Shape = 2,
     // A row does not ascend, has a neighbour that is no vertex, or names its own vertex.
-    Row,
+    Row = 3,
     // A neighbour is not mutual.
-    Mutual,
+    Mutual = 4,
 }
 
-impl TableError {
-    // The refusal's number.
-    pub fn number(self) -> u8
-        ensures { result ≡ refusal self }
-    {
-        match self {
-            TableError::Size => 1,
-            TableError::Shape => 2,
-            TableError::Row => 3,
-            TableError::Mutual => 4,
-        }
+impl Refusal for TableError {
+    ghost use Rattle.std.proofs.Common.{arith};
+
+    ghost refusal = { refusal };
+
+    ghost apart = { λ d e same. Prim.grind arith };
+
+    fn number(self) -> u8 {
+        self as u8
     }
 }

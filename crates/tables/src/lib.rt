@@ -4,6 +4,8 @@
 
 mod error;
 mod neighbour;
+mod right_rows;
+mod rows;
 
 pub use error::TableError;
 pub use neighbour::NeighbourTable;

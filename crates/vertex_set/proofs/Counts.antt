@@ -1,6 +1,6 @@
 -- Counting members.
-use Rattle.std.proofs.Common.{◌≡◌, ℕ, zero, suc, ◌+◌, ◌<◌, ◌≤◌, min, Bool, true, false, cond, not, ◌&&◌, T, eqb, ltb, ◌⊎◌, ◌↔◌, sym, refl, ap, ◌∙◌, ap₂, inl, inr, not-suc-le-zero, add-zero, add-suc, arith}
-use Rattle.std.proofs.lemmas.Bool.{eq-eqb, eqb-true, ltb-true, lt-ltb, le-ltb, cases_lt, cases_eq, both_ways, and_from, and_left, and_right, not_from_true, not_from_false}
+use Rattle.std.proofs.Common.{◌≡◌, ℕ, zero, suc, ◌+◌, ◌<◌, ◌≤◌, min, Bool, true, false, cond, not, ◌&&◌, IsTrue, ltb, ◌⊎◌, ◌↔◌, sym, refl, ap, ◌∙◌, ap₂, inl, inr, not-suc-le-zero, add-zero, add-suc, arith}
+use Rattle.std.proofs.lemmas.Bool.{ltb-true, lt-ltb, le-ltb, cases_lt, cases_eq, both_ways, and_from, and_left, and_right, not_from_true, not_from_false}
 use Rattle.vertex_set.proofs.Sets.{without_here, without_other}
 use Rattle.vertex_set.specs.Sets.{Set, ◌∈◌, ◌⊆◌, Same, Limited, ◌∖◌, none, below, without_vertex, count, size}
 
@@ -72,17 +72,16 @@ count_zero s (suc n) e v l = go (s n) refl (cases_eq v n) (count_zero s n)
     go false p (inr d) ih = ih (omega (arith, simp p at e)) v (omega arith)
 
 -- s lies in t just if nobody is in s and not in t
-pub subset_tested : (s t d : Set) (r : Bool) → Limited s → Same d (s ∖ t) → r ≡ eqb (size d) 0 → T r ↔ (s ⊆ t)
-subset_tested s t d true few same e = (λ _. inside, λ _. tt)
+pub subset_tested : (s t d : Set) (r : Bool) → Limited s → Same d (s ∖ t) → IsTrue r ↔ (size d ≡ 0) → IsTrue r ↔ (s ⊆ t)
+subset_tested s t d r few same e = (λ yes. inside (e.0 yes), λ sub. e.1 (count_same d none 1024 (λ v l. same v ∙ out sub v) ∙ count_none 1024))
   where
-    inside : s ⊆ t
-    inside v m = go (t v) refl
+    inside : size d ≡ 0 → s ⊆ t
+    inside nobody v m = go (t v) refl
       where
         go : (b : Bool) → t v ≡ b → t v ≡ true
         go true p = p
-        go false p = absurd (both_ways (d v) (count_zero d 1024 (eqb-true _ 0 (sym e)) v (ltb-true v 1024 (few v m))) (same v ∙ and_from _ _ m (not_from_false _ p)))
-subset_tested s t d false few same e = (λ h. absurd h, λ sub. absurd (both_ways _ (sym e) (eq-eqb (size d) 0 (count_same d none 1024 (λ v l. same v ∙ out sub v) ∙ count_none 1024))))
-  where
+        go false p = absurd (both_ways (d v) (count_zero d 1024 nobody v (ltb-true v 1024 (few v m))) (same v ∙ and_from _ _ m (not_from_false _ p)))
+
     out : s ⊆ t → (v : ℕ) → (s v && not (t v)) ≡ false
     out sub v = go (s v) refl
       where

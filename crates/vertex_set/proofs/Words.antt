@@ -1,9 +1,10 @@
 -- Membership in words of bits.
-use Rattle.std.proofs.Common.{◌≡◌, ℕ, zero, suc, ◌+◌, ◌-◌, ◌*◌, ◌/◌, ◌%◌, ◌^◌, ◌<◌, ◌≤◌, min, Bool, true, false, cond, not, ◌&&◌, ltb, ◌⊎◌, List, length, get_or, set, replicate, sym, refl, ap, ◌∙◌, ap₂, inl, inr, arith}
+use Rattle.std.proofs.Common.{◌≡◌, ℕ, zero, suc, ◌+◌, ◌-◌, ◌*◌, ◌/◌, ◌%◌, ◌^◌, ◌<◌, ◌≤◌, min, Bool, true, false, cond, not, ◌&&◌, ltb, ◌⊎◌, List, length, get_or, set, take, replicate, add-one, sum_by, sym, refl, ap, ◌∙◌, ap₂, inl, inr, arith}
 use lib.Bits.{bit_and, bit_xor}
 use lib.Count.{ones}
 use Rattle.std.proofs.lemmas.Nat.{one_shl, mod_below}
-use Rattle.std.proofs.lemmas.List.{get_or_past, get_or-set_same, get_or-set_other}
+use Rattle.std.proofs.lemmas.List.{get_or_past, get_or-set_same, get_or-set_other, take_all}
+use Rattle.std.proofs.lemmas.List.Sums.{sum_by_more}
 use Rattle.std.proofs.lemmas.Bool.{cases_eq, cases_lt, both_ways, lt-ltb, le-ltb, and_left, cond-true, cond-false}
 use Rattle.vertex_set.specs.Sets.{Set, count, Same, Limited, below, ◌∩◌, ◌∖◌, with_vertex, without_vertex}
 use Rattle.vertex_set.specs.Words.{bit, member}
@@ -122,5 +123,14 @@ words_and ws xs ys e d f = each_word ws (member xs ∩ member ys) e
 
 pub words_and_not : (ws xs ys : List ℕ) → length ws ≡ 16 → length xs ≡ 16 → ((i : ℕ) → i < 16 → get_or ys i 0 < 2 ^ 64) → ((i : ℕ) → i < 16 → get_or ws i 0 ≡ bit_and (get_or xs i 0) (18446744073709551615 - get_or ys i 0)) → Same (member ws) (member xs ∖ member ys)
 words_and_not ws xs ys e d small f = each_word ws (member xs ∖ member ys) e
-    (λ i k a b. ap (λ (x : ℕ). bit x k) (f i a) ∙ bit_of_and _ _ k ∙ ap (λ (x : Bool). bit (get_or xs i 0) k && x) (bit_not 64 (get_or ys i 0) k (small i a) b) ∙ sym (ap₂ (λ (x y : Bool). x && not y) (member_at xs i k b) (member_at ys i k b)))
+    (λ i k a b. ap (λ (x : ℕ). bit x k) (f i a) ∙ bit_of_and _ _ k ∙ ap (λ (x : Bool). bit (get_or xs i 0) k && x) (bit_not (get_or ys i 0) k (small i a) b) ∙ sym (ap₂ (λ (x y : Bool). x && not y) (member_at xs i k b) (member_at ys i k b)))
     (λ v m. and_left _ _ (member_past xs v d m))
+
+-- the members are as many as the set bits of all words together
+pub count_words : (ws : List ℕ) → length ws ≡ 16 → ((i : ℕ) → i < 16 → get_or ws i 0 < 2 ^ 64) → sum_by ones ws ≡ count (member ws) 1024
+unfolding count
+count_words ws long small = sym (ap (sum_by ones) (take_all 16 ws (omega arith))) ∙ first 16 (omega arith)
+  where
+    first : (i : ℕ) → i ≤ 16 → sum_by ones (take i ws) ≡ count (member ws) (64 * i)
+    first zero l = refl
+    first (suc i) l = rw (← add-one i) (sum_by_more ones ws i 0 (omega arith) ∙ ap (λ (x : ℕ). x + ones (get_or ws i 0)) (first i (omega arith)) ∙ sym (count_word ws i (small i (omega arith))))

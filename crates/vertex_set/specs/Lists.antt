@@ -1,5 +1,6 @@
 -- Sets written out as lists.
-use Rattle.std.specs.Prelude.{◌≡◌, ℕ, ◌<◌, ◌≤◌, ◌↔◌, List, [], ◌∷◌, length, slice_index}
+use Rattle.std.specs.Prelude.{◌≡◌, ℕ, ◌-◌, ◌<◌, ◌≤◌, ◌↔◌, List, [], ◌∷◌, length, filter, slice_index}
+use Rattle.std.specs.List.{range_with_len}
 use Rattle.vertex_set.specs.Sets.{Set, ◌∈◌, none, with_vertex}
 
 -- each number is larger than those before it
@@ -29,3 +30,7 @@ pub record FirstFrom (s : Set) (v u : ℕ) : Type 0 where
 abbrev pub elements : List ℕ → Set
 elements [] = none
 elements (x ∷ xs) = with_vertex (elements xs) x
+
+-- the members of s among the vertices v to 1,023, in ascending order
+unfoldable pub listed : Set → ℕ → List ℕ
+listed s v = filter s (range_with_len v (1024 - v))

@@ -5,5 +5,6 @@
 mod error;
 mod set;
 
-pub use error::SetError;
+pub use error::{Refusal, SetError};
 pub use set::VertexSet;
+pub use set::members::Members;

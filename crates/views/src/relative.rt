@@ -38,8 +38,6 @@ impl<'a, N: Network> Network for Relative<'a, N> {
 
     ghost means = { λ t. relative (N.Network.means t.network.now) };
 
-    ghost duties = { λ t. relative_duties N.Network.stated (N.Network.means t.network.now) (N.Network.duties t.network.now) };
-
     fn highest_strength() -> u16
         ensures { result ≡ 1000 }
     {
@@ -59,6 +57,8 @@ impl<'a, N: Network> Network for Relative<'a, N> {
         let whole = self.network.strength(layer, &self.all, vertex);
         in_thousandths(part, whole)
     }
+
+    ghost duties = { λ t. relative_duties N.Network.stated (N.Network.means t.network.now) (N.Network.duties t.network.now) };
 }
 
 // The part in thousandths of the whole, rounded down; 0 if the whole is 0.

@@ -16,7 +16,8 @@ pub struct Restricted<'a, N> {
 impl<'a, N> Restricted<'a, N> {
     // The network restricted to the group.
     pub fn new(network: &'a N, within: VertexSet) -> Restricted<'a, N>
-        ensures { (result.network.now ≡ network.now) × (result.within ≡ within) }
+        ensures network { result.network.now ≡ network.now }
+        ensures within { result.within ≡ within }
     {
         Restricted { network, within }
     }
@@ -28,8 +29,6 @@ impl<'a, N: Network> Network for Restricted<'a, N> {
     ghost stated = { N.Network.stated };
 
     ghost means = { λ t. restricted (members t.within) (N.Network.means t.network.now) };
-
-    ghost duties = { λ t. restricted_duties N.Network.stated (members t.within) (N.Network.means t.network.now) (N.Network.duties t.network.now) };
 
     fn highest_strength() -> u16
         ensures { result ≡ N.Network.stated }
@@ -52,4 +51,6 @@ impl<'a, N: Network> Network for Restricted<'a, N> {
         let common = group.intersection(&self.within);
         self.network.strength(layer, &common, vertex)
     }
+
+    ghost duties = { λ t. restricted_duties N.Network.stated (members t.within) (N.Network.means t.network.now) (N.Network.duties t.network.now) };
 }

@@ -7,7 +7,8 @@ use Rattle.vertex_set.specs.Sets.{Set, ◌⊆◌, ◌∩◌, below}
 use Rattle.vertex_set.proofs.Sets.{same_below}
 use Rattle.network.specs.Networks.{Duties}
 use Rattle.network.proofs.Strengths.{cond_grows, none_missing}
-use Rattle.weights.specs.Weights.{Weights, weight, Sized}
+use Rattle.network.specs.Sizes.{WithinLimits}
+use Rattle.weights.specs.Weights.{Weights, weight}
 use Rattle.weights.specs.Networks.{sum_over, weight_in, weight_network}
 use Rattle.weights.specs.Sums.{sum_grows, sum_agrees}
 
@@ -25,7 +26,7 @@ module _ (t : Weights) where
   local l s v = ap (λ (n : ℕ). cond (nat_lt l t.layers && nat_lt v t.vertices) (min 65535 n) 0) (sum_agrees s (s ∩ below t.vertices) (weight t l v) t.vertices (same_below s t.vertices))
 
   -- the duties, with the highest strength 65,535
-  pub weight_duties : Sized t → Duties 65535 (weight_network t)
+  pub weight_duties : WithinLimits 128 t.vertices t.layers → Duties 65535 (weight_network t)
   weight_duties size = record {
     stated = omega arith;
     some_vertices = size.0;

@@ -1,13 +1,8 @@
 -- What a weight table means.
-use Rattle.std.specs.Prelude.{ℕ, zero, suc, ◌+◌, min, cond, ◌&&◌, vec_items, nat_lt}
+use Rattle.std.specs.Prelude.{ℕ, zero, suc, ◌+◌, min, cond, ◌&&◌, nat_lt}
 use Rattle.vertex_set.specs.Sets.{Set}
 use Rattle.network.specs.Networks.{Multilayer}
-use Rattle.weights.specs.Weights.{Weights, weights, weight}
-use Rattle.weights.specs.declared.table.WeightTable.{WeightTable}
-
--- what the table was made of
-abbrev pub weights_of : WeightTable → Weights
-weights_of t = weights t.vertices t.layers (vec_items t.weights)
+use Rattle.weights.specs.Weights.{Weights, weight}
 
 -- the sum of w over the members of s below n
 unfoldable pub sum_over : Set → (ℕ → ℕ) → ℕ → ℕ

@@ -1,6 +1,7 @@
 -- The rules of a weight table and the numbers of their refusals.
 use Rattle.std.specs.Prelude.{ℕ}
-use Rattle.weights.specs.Weights.{Weights, Sized, Full, NoOwn}
+use Rattle.network.specs.Sizes.{WithinLimits}
+use Rattle.weights.specs.Weights.{Weights, Full, NoOwn}
 use Rattle.weights.specs.declared.error.WeightError.{WeightError}
 use Rattle.weights.specs.declared.error.WeightError.TheVariants.{Size, Length, Own}
 
@@ -12,7 +13,7 @@ refusal Own = 5
 
 -- the rule whose break each error reports
 abbrev pub Rule : Weights → WeightError → Type 0
-Rule t Size = Sized t
+Rule t Size = WithinLimits 128 t.vertices t.layers
 Rule t Length = Full t
 Rule t Own = NoOwn t
 

@@ -1,5 +1,5 @@
 -- Weights, one for each layer and two vertices, and the rules that they keep.
-use Rattle.std.specs.Prelude.{◌≡◌, ℕ, ◌+◌, ◌*◌, ◌<◌, ◌≤◌, List, length, slice_index}
+use Rattle.std.specs.Prelude.{◌≡◌, ℕ, ◌+◌, ◌*◌, ◌<◌, List, length, slice_index}
 
 -- what a table is made of: the rows of all vertices, layer by layer, one behind the other
 pub record Weights : Type 0 where
@@ -19,13 +19,13 @@ weight t l v u = slice_index t.list ((l * t.vertices + v) * t.vertices + u)
 abbrev pub Row : Weights → ℕ → ℕ → List ℕ → Type 0
 Row t l v xs = (length xs ≡ t.vertices) × ((u : ℕ) → u < t.vertices → slice_index xs u ≡ weight t l v u)
 
--- there are 1 to 128 vertices and 1 to 6 layers
-abbrev pub Sized : Weights → Type 0
-Sized t = (1 ≤ t.vertices) × (t.vertices ≤ 128) × (1 ≤ t.layers) × (t.layers ≤ 6)
-
 -- in each layer each vertex has a weight for each vertex
 abbrev pub Full : Weights → Type 0
 Full t = length t.list ≡ t.layers * t.vertices * t.vertices
+
+-- in the layer l, no vertex has a weight in its own row
+abbrev pub NoOwnIn : Weights → ℕ → Type 0
+NoOwnIn t l = (v : ℕ) → v < t.vertices → weight t l v v ≡ 0
 
 -- no vertex has a weight in its own row
 abbrev pub NoOwn : Weights → Type 0

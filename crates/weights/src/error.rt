@@ -1,26 +1,26 @@
-ghost use Rattle.std.specs.Prelude.{◌≡◌};
 ghost use Rattle.weights.specs.Refusals.{refusal};
+
+use vertex_set::Refusal;
 
 // Why no table is made of the weights that were given.
 #[derive(Clone, Copy, PartialEq, Eq, Debug)]
 pub enum WeightError {
     // The number of vertices or of layers is outside its limits.
-    Size,
+    Size = 1,
     // There is not one weight for each layer and two vertices.
-    Length,
+    Length = 2,
     // A vertex has a weight in its own row.
-    Own,
+    Own = 5,
 }
 
-impl WeightError {
-    // The refusal's number.
-    pub fn number(self) -> u8
-        ensures { result ≡ refusal self }
-    {
-        match self {
-            WeightError::Size => 1,
-            WeightError::Length => 2,
-            WeightError::Own => 5,
-        }
+impl Refusal for WeightError {
+    ghost use Rattle.std.proofs.Common.{arith};
+
+    ghost refusal = { refusal };
+
+    ghost apart = { λ d e same. Prim.grind arith };
+
+    fn number(self) -> u8 {
+        self as u8
     }
 }

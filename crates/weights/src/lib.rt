@@ -3,6 +3,7 @@
 #![tactic(auto)]
 
 mod error;
+mod rows;
 mod table;
 
 pub use error::WeightError;

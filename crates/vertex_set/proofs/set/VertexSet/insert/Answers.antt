@@ -1,4 +1,4 @@
-use Rattle.std.proofs.Common.{not, sym, ap, ◌∙◌, arith}
+use Rattle.std.proofs.Common.{sym, ◌∙◌, arith}
 use Rattle.std.proofs.lemmas.List.{length-set}
 use Rattle.vertex_set.proofs.Counts.{count_le}
 use Rattle.vertex_set.proofs.Words.{put_in, put_in_size, sixteen_words}
@@ -13,9 +13,5 @@ invariant_of-self c =
     let size = put_in_size c.args.self.now.words c.from.result c.args.v c.from.ensures (omega arith) (omega arith) (sym c.if-fresh.ensures) in
     record { limited = sixteen_words _ (length-set c.args.self.now.words c.from.result _ ∙ omega arith); counted = omega (arith, size, c.args.self.now.counted) }
 
-pub returns-then-fresh : goal.returns-then-fresh
-returns-then-fresh c = (
-  omega arith,
-  ap not c.contains-fresh.ensures,
-  put_in c.args.self.now.words c.from.result c.args.v c.from.ensures (omega arith) (omega arith) (sym c.if-fresh.ensures),
-)
+pub returns-then-fresh-clause-after : goal.returns-then-fresh-clause-after
+returns-then-fresh-clause-after c = put_in c.args.self.now.words c.from.result c.args.v c.from.ensures (omega arith) (omega arith) (sym c.if-fresh.ensures)

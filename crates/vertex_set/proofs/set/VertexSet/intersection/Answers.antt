@@ -1,6 +1,12 @@
-use Rattle.std.proofs.Common.{arith}
+use Rattle.std.proofs.Common.{◌≡◌, get_or, arith, rules}
+use lib.Bits.{bit_and}
+use Rattle.vertex_set.proofs.Made.{made_each}
 use Rattle.vertex_set.proofs.Words.{words_and}
 use Rattle.vertex_set.proofs.set.VertexSet.intersection.Goals as goal
 
 pub returns : goal.returns
-returns c = rw c.of_words.ensures (words_and c.loop-i.words c.args.self.now.words c.args.other.now.words c.loop-i.invariant.0 (omega arith) (λ i l. c.loop-i.invariant.1 i (omega arith)))
+returns c =
+    let xs = c.args.self.now.words in
+    let ys = c.args.other.now.words in
+    rw c.of_words.ensures (words_and c.from_fn.result xs ys c.from_fn.ensures.items.long (omega arith)
+    (made_each (λ i y. y ≡ bit_and (get_or xs i 0) (get_or ys i 0)) 0 c.from_fn.ensures.items (λ i y q call. search rules)))

@@ -1,0 +1,48 @@
+-- What tests of the elements of a list, or of the numbers below a bound, tell.
+use Rattle.std.proofs.Common.{◌≡◌, ◌∙◌, ℕ, ◌+◌, ◌<◌, ◌≤◌, Bool, true, false, eqb, leb, ltb, List, [], ◌∷◌, length, get_or, sym, refl, ap, ⊎_elim, arith}
+use Rattle.std.proofs.lemmas.Bool.{both_ways, false≢true, leb-true, le-leb, ltb-true, lt-ltb, eqb-true, eq-eqb, and_parts, and_from, or_cases, or_left, or_right}
+use Rattle.std.proofs.lemmas.List.Kept.{AllPairs-from_increasing}
+use Rattle.std.proofs.lemmas.List.Sorted.{answers_always}
+use Rattle.std.specs.Prelude.{◌≢◌, ◌↔◌, IsTrue}
+use Rattle.std.specs.Bool.{MatchBool}
+use Rattle.std.specs.Fn.{Called, ComputesOnPairs}
+use Rattle.std.specs.List.{IsAllAdjacentAnswer, AllWithin, HoldsAt, list_all}
+use denote.Param.Members.{Mut}
+use denote.Ref.{Bor}
+use Rattle.vertex_set.specs.Sets.{◌∈◌}
+use Rattle.vertex_set.specs.Lists.{Ascending, elements}
+use Rattle.tables.specs.Rows.{RowRight}
+
+-- what the result r of `is_sorted_by` tells, where the closure computes a test
+module _ {F : Type 0} {g : Mut F (Bor ℕ × (Bor ℕ × Unit {0})) Bool} {f : F} (xs : List ℕ) (r : Bool) (says : (e : ℕ → ℕ → Bool) → ComputesOnPairs g e f → IsAllAdjacentAnswer (λ x y b. b ≡ e x y) xs r) where
+  -- each element is at most the next
+  pub rises : ((f : F) (a : Bor ℕ × (Bor ℕ × Unit {0})) (b : Bool) (q : F) → Called g f a b q → b ≡ leb a.0.now a.1.0.now) → IsTrue r ↔ ((k : ℕ) → k + 1 < length xs → get_or xs k 0 ≤ get_or xs (k + 1) 0)
+  rises computes = go r (says leb (answers_always g (λ a b. b ≡ leb a.0.now a.1.0.now) f computes))
+    where
+      go : (r : Bool) → IsAllAdjacentAnswer (λ x y b. b ≡ leb x y) xs r → IsTrue r ↔ ((k : ℕ) → k + 1 < length xs → get_or xs k 0 ≤ get_or xs (k + 1) 0)
+      go true h = ((λ _. λ k l. leb-true _ _ (sym (h k 0 l))), λ _. refl)
+      go false h = ((λ none. absurd (false≢true none)), λ up. absurd (both_ways _ (sym (h.2 0)) (le-leb _ _ (up h.0 h.1))))
+
+  -- each element is below the next
+  pub ascends : ((f : F) (a : Bor ℕ × (Bor ℕ × Unit {0})) (b : Bool) (q : F) → Called g f a b q → b ≡ ltb a.0.now a.1.0.now) → IsTrue r ↔ Ascending xs
+  ascends computes = go r (says ltb (answers_always g (λ a b. b ≡ ltb a.0.now a.1.0.now) f computes))
+    where
+      go : (r : Bool) → IsAllAdjacentAnswer (λ x y b. b ≡ ltb x y) xs r → IsTrue r ↔ Ascending xs
+      go true h = ((λ _. λ i j l m. AllPairs-from_increasing xs (λ k n. ltb-true _ _ (sym (h k 0 n))) i j 0 l m), λ _. refl)
+      go false h = ((λ none. absurd (false≢true none)), λ up. absurd (both_ways _ (sym (h.2 0)) (lt-ltb _ _ (up h.0 (h.0 + 1) (omega arith) h.1))))
+
+-- each element of an ascending list is a vertex other than v
+pub right_if : (n v : ℕ) (xs : List ℕ) (r : Bool) → Ascending xs → MatchBool r (AllWithin (λ u. (u < n) × (u ≢ v)) xs 0 (length xs)) ((k : ℕ) × (k < length xs) × HoldsAt (λ u. (u < n) × (u ≢ v) → ⊥) xs k) → IsTrue r ↔ RowRight n v xs
+right_if n v xs true up h = ((λ _. record { ascending = up; inside = λ i l. (h i 0 (omega arith) l).0; others = λ i l. (h i 0 (omega arith) l).1 }), λ _. refl)
+right_if n v xs false up h = ((λ none. absurd (false≢true none)), λ right. absurd (h.2 0 (right.inside h.0 h.1, right.others h.0 h.1)))
+
+-- a test passes a list if it passes each of its elements
+pub all_elements : (p : ℕ → Bool) (xs : List ℕ) → IsTrue (list_all p xs) ↔ ((u : ℕ) → u ∈ elements xs → p u ≡ true)
+all_elements p [] = ((λ _. λ u none. absurd (false≢true none)), λ _. refl)
+all_elements p (x ∷ xs) = both (all_elements p xs)
+  where
+    both : IsTrue (list_all p xs) ↔ ((u : ℕ) → u ∈ elements xs → p u ≡ true) → IsTrue (list_all p (x ∷ xs)) ↔ ((u : ℕ) → u ∈ elements (x ∷ xs) → p u ≡ true)
+    both rest = (
+      (λ all u m. ⊎_elim (λ here. ap p (eqb-true u x here) ∙ (and_parts (p x) (list_all p xs) all).0) (rest.0 (and_parts (p x) (list_all p xs) all).1 u) (or_cases (eqb u x) (elements xs u) m)),
+      λ each. and_from _ _ (each x (or_left _ _ (eq-eqb x x refl))) (rest.1 (λ u m. each u (or_right _ _ m))),
+    )

@@ -1,0 +1,92 @@
+// Rows of neighbours, and the rules that they keep.
+
+ghost use Rattle.std.specs.Prelude.{◌≡◌, ◌<◌, ◌↔◌, IsTrue, IfOk, IfErr};
+ghost use Rattle.vertex_set.specs.Refusals.{FirstBroken};
+ghost use Rattle.tables.specs.Rows.{rows, row, Shaped, RowRight, RightLayer, RowsRight};
+ghost use Rattle.tables.specs.Refusals.{refusal, Rule};
+
+use crate::error::TableError;
+use network::Size;
+
+// Rows of neighbours, one behind the other: one for each vertex in each layer. The row of layer l
+// and vertex v is number l * vertices + v; it runs from its start up to the next start.
+#[derive(Drop)]
+pub(crate) struct Rows {
+    pub(crate) size: Size<1024>,
+    // The two lists are kept as they are given: the rules, and what is refused, are about them.
+    starts: Vec<u32>,
+    neighbours: Vec<u16>,
+    ghost shaped: { Shaped (rows size.vertices size.layers starts.items neighbours.items) },
+}
+
+impl Rows {
+    ghost use Rattle.tables.specs.Stored.{stored_rows};
+
+    // The given rows, if their size and shape are right; else the first of the two that is not.
+    pub(crate) fn new(
+        vertices: u16,
+        layers: u8,
+        starts: Vec<u32>,
+        neighbours: Vec<u16>,
+    ) -> Result<Rows, TableError>
+        ensures ok { IfOk result
+            (λ made. stored_rows made ≡ rows vertices layers starts.items neighbours.items) }
+        ensures err { IfErr result
+            (FirstBroken refusal (Rule (rows vertices layers starts.items neighbours.items))) }
+    {
+        let size = Size::new(vertices, layers).ok_or(TableError::Size)?;
+        if !is_shaped(size, &starts, &neighbours) {
+            return Err(TableError::Shape);
+        }
+        Ok(Rows {
+            size,
+            starts,
+            neighbours,
+        })
+    }
+
+    // The row of the vertex in the layer.
+    pub(crate) fn row(&self, layer: u8, vertex: u16) -> &[u16]
+        requires layer { layer < self.now.size.layers }
+        requires vertex { vertex < self.now.size.vertices }
+        ensures { result.now ≡ row (stored_rows self.now) layer vertex }
+    {
+        let number = self.size.row(layer, vertex);
+        &self.neighbours[self.starts[number] as usize..self.starts[number + 1] as usize]
+    }
+
+    // Whether each row is right.
+    pub(crate) fn are_right(&self) -> bool
+        ensures { IsTrue result ↔ RowsRight (stored_rows self.now) }
+    {
+        (0..self.size.layers).all(|layer| self.is_right_layer(layer))
+    }
+
+    // Whether each row of the layer is right.
+    fn is_right_layer(&self, layer: u8) -> bool
+        requires { layer < self.now.size.layers }
+        ensures { IsTrue result ↔ RightLayer (stored_rows self.now) layer }
+    {
+        let vertices = self.size.vertices;
+        (0..vertices).all(|vertex| is_right_row(self.row(layer, vertex), vertices, vertex))
+    }
+}
+
+// Whether the starts and the neighbours have the right lengths and shape.
+fn is_shaped(size: Size<1024>, starts: &[u32], neighbours: &[u16]) -> bool
+    ensures { IsTrue result ↔ Shaped (rows size.vertices size.layers starts.now neighbours.now) }
+{
+    let rows = size.rows();
+    starts.len() == rows + 1
+        && neighbours.len() <= 65536
+        && starts[0] == 0
+        && starts[rows] as usize == neighbours.len()
+        && starts.is_sorted_by(|start, next| start <= next)
+}
+
+// Whether the row of a vertex ascends, has only vertices, and leaves out the vertex itself.
+fn is_right_row(row: &[u16], vertices: u16, vertex: u16) -> bool
+    ensures { IsTrue result ↔ RowRight vertices vertex row.now }
+{
+    row.is_sorted_by(|u, next| u < next) && row.iter().all(|u| *u < vertices && *u != vertex)
+}
