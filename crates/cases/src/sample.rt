@@ -11,7 +11,7 @@ pub(crate) fn refused<T: Drop, E: Refusal + Drop>(outcome: Result<T, E>) -> Opti
     outcome.err().map(|e| e.number())
 }
 
-// What becomes of a neighbour table of the given lists.
+// The neighbour table of the given lists, or its refusal.
 pub(crate) fn made(
     heap: Global,
     vertices: u16,
@@ -24,7 +24,7 @@ pub(crate) fn made(
     Ok(NeighbourTable::new(vertices, layers, starts, neighbours))
 }
 
-// What becomes of a table of the given weights.
+// The table of the given weights, or its refusal.
 pub(crate) fn weighed(
     heap: Global,
     vertices: u16,

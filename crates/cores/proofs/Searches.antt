@@ -14,7 +14,7 @@ use Rattle.cores.specs.Cores.{Order, Vector, ValidOrder, Strong, Short, EachStro
 use Rattle.cores.proofs.Theory.{short_or_strong}
 
 -- the vertices below n, going round from the first
-abbrev pub around : ℕ → ℕ → List ℕ
+abbrev around : ℕ → ℕ → List ℕ
 around first n = range_with_len first (n - first) ++ range_with_len 0 (min first n)
 
 -- each of the n numbers from a on is one of them

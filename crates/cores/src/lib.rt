@@ -13,3 +13,4 @@ pub use order::is_order;
 pub use peeling::peel;
 pub use shrinking::shrink;
 pub use theorems::{core_is_one, groups_lie_in_core, higher_core_lies_inside, zero_core_is_all};
+pub use vertex_set::Refusal;

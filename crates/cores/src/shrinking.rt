@@ -21,8 +21,9 @@ pub fn shrink<N: Network>(network: &N, order: &[u8], vector: &[u16], group: &mut
     }
 }
 
-// A member that falls short in a layer, if there is one: the first met going round from `first`.
-// (Network, order, vector and group stay apart here: through a struct each clause would be longer.)
+// A member that falls short in a layer, if there is one. The search goes round from `first`, which is
+// for speed; no clause speaks of it. (Network, order, vector and group stay apart, here and in
+// `shrink` and `is_weak`: through a struct each clause would be longer.)
 fn weak_from<N: Network>(
     network: &N,
     order: &[u8],

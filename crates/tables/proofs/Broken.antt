@@ -4,8 +4,6 @@ use Rattle.network.specs.Sizes.{WithinLimits}
 use Rattle.vertex_set.specs.Refusals.{FirstBroken}
 use Rattle.tables.specs.Rows.{Rows, Shaped, RowsRight, MutualRows}
 use Rattle.tables.specs.Refusals.{refusal, Rule, EachRule}
-use Rattle.tables.specs.Neighbours.{rows_of}
-use Rattle.tables.specs.declared.neighbour.NeighbourTable.{NeighbourTable}
 use Rattle.tables.specs.declared.error.TableError.{TableError}
 use Rattle.tables.specs.declared.error.TableError.TheVariants.{Size, Shape, Row, Mutual}
 
@@ -34,7 +32,3 @@ module _ (t : Rows) (size : WithinLimits 1024 t.vertices t.layers) (shape : Shap
     all_kept back Shape = shape
     all_kept back Row = right
     all_kept back Mutual = back
-
--- a table keeps the rules
-pub table_keeps_rules : (t : NeighbourTable) → EachRule (rows_of t)
-table_keeps_rules t = all_kept (rows_of t) t.rows.rows.size.within t.rows.rows.shaped t.rows.right t.is_mutual

@@ -1,4 +1,4 @@
--- What tests of the elements of a list, or of the numbers below a bound, tell.
+-- What tests of the elements of a list, or of each vertex in each layer, tell.
 use Rattle.std.proofs.Common.{◌≡◌, ◌∙◌, ℕ, ◌+◌, ◌<◌, ◌≤◌, Bool, true, false, eqb, leb, ltb, List, [], ◌∷◌, length, get_or, sym, refl, ap, ⊎_elim, arith}
 use Rattle.std.proofs.lemmas.Bool.{both_ways, false≢true, leb-true, le-leb, ltb-true, lt-ltb, eqb-true, eq-eqb, and_parts, and_from, or_cases, or_left, or_right}
 use Rattle.std.proofs.lemmas.List.Kept.{AllPairs-from_increasing}
@@ -31,7 +31,7 @@ module _ {F : Type 0} {g : Mut F (Bor ℕ × (Bor ℕ × Unit {0})) Bool} {f : F
       go true h = ((λ _. λ i j l m. AllPairs-from_increasing xs (λ k n. ltb-true _ _ (sym (h k 0 n))) i j 0 l m), λ _. refl)
       go false h = ((λ none. absurd (false≢true none)), λ up. absurd (both_ways _ (sym (h.2 0)) (lt-ltb _ _ (up h.0 (h.0 + 1) (omega arith) h.1))))
 
--- each element of an ascending list is a vertex other than v
+-- an ascending list is the right row of v just if each of its elements is a vertex other than v
 pub right_if : (n v : ℕ) (xs : List ℕ) (r : Bool) → Ascending xs → MatchBool r (AllWithin (λ u. (u < n) × (u ≢ v)) xs 0 (length xs)) ((k : ℕ) × (k < length xs) × HoldsAt (λ u. (u < n) × (u ≢ v) → ⊥) xs k) → IsTrue r ↔ RowRight n v xs
 right_if n v xs true up h = ((λ _. record { ascending = up; inside = λ i l. (h i 0 (omega arith) l).0; others = λ i l. (h i 0 (omega arith) l).1 }), λ _. refl)
 right_if n v xs false up h = ((λ none. absurd (false≢true none)), λ right. absurd (h.2 0 (right.inside h.0 h.1, right.others h.0 h.1)))
@@ -46,3 +46,15 @@ all_elements p (x ∷ xs) = both (all_elements p xs)
       (λ all u m. ⊎_elim (λ here. ap p (eqb-true u x here) ∙ (and_parts (p x) (list_all p xs) all).0) (rest.0 (and_parts (p x) (list_all p xs) all).1 u) (or_cases (eqb u x) (elements xs u) m)),
       λ each. and_from _ _ (each x (or_left _ _ (eq-eqb x x refl))) (rest.1 (λ u m. each u (or_right _ _ m))),
     )
+
+-- what a test of each vertex in each layer tells, where passing it says that P holds, and failing it that P does not
+pub each_place : {layers vertices : ℕ} {Passes Fails : ℕ → ℕ → Type 0} {r : Bool} (P : ℕ → ℕ → Type 0)
+    → (r ≡ true → (l v : ℕ) → l < layers → v < vertices → Passes l v)
+    → (r ≡ false → (l : ℕ) × (v : ℕ) × (l < layers) × (v < vertices) × Fails l v)
+    → ((l v : ℕ) → l < layers → v < vertices → Passes l v → P l v)
+    → ((l v : ℕ) → l < layers → v < vertices → Fails l v → P l v → ⊥)
+    → IsTrue r ↔ ((l v : ℕ) → l < layers → v < vertices → P l v)
+each_place {r = true} P passed failed has lacks = ((λ _. λ l v a b. has l v a b (passed refl l v a b)), λ _. refl)
+each_place {r = false} P passed failed has lacks =
+    let f = failed refl in
+    ((λ none. absurd (false≢true none)), λ all. absurd (lacks f.0 f.1 f.2 f.3 f.4 (all f.0 f.1 f.2 f.3)))

@@ -40,10 +40,6 @@ pub record RowRight (n v : ℕ) (xs : List ℕ) : Type 0 where
   pub inside : (i : ℕ) → i < length xs → slice_index xs i < n
   pub others : (i : ℕ) → i < length xs → slice_index xs i ≢ v
 
--- the row of each vertex in the layer l is right
-pub record RightLayer (t : Rows) (l : ℕ) : Type 0 where
-  pub each : (v : ℕ) → v < t.vertices → RowRight t.vertices v (row t l v)
-
 -- the row of each vertex in each layer is right
 abbrev pub RowsRight : Rows → Type 0
 RowsRight t = (l v : ℕ) → l < t.layers → v < t.vertices → RowRight t.vertices v (row t l v)
@@ -51,10 +47,6 @@ RowsRight t = (l v : ℕ) → l < t.layers → v < t.vertices → RowRight t.ver
 -- each neighbour of v in the layer l has v for its neighbour there
 abbrev pub MutualRow : Rows → ℕ → ℕ → Type 0
 MutualRow t l v = (u : ℕ) → u ∈ elements (row t l v) → v ∈ elements (row t l u)
-
--- each row of the layer l is mutual
-pub record MutualLayer (t : Rows) (l : ℕ) : Type 0 where
-  pub each : (v : ℕ) → v < t.vertices → MutualRow t l v
 
 -- each row is mutual
 abbrev pub MutualRows : Rows → Type 0

@@ -2,6 +2,7 @@
 
 #![tactic(auto)]
 
+mod each;
 mod error;
 mod neighbour;
 mod right_rows;
@@ -9,3 +10,4 @@ mod rows;
 
 pub use error::TableError;
 pub use neighbour::NeighbourTable;
+pub use vertex_set::Refusal;

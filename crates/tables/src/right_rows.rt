@@ -2,9 +2,10 @@
 
 ghost use Rattle.std.specs.Prelude.{◌≡◌, ◌<◌, ◌↔◌, IsTrue, IsSome, IfSome};
 ghost use Rattle.vertex_set.specs.Lists.{elements};
-ghost use Rattle.tables.specs.Rows.{row, RowsRight, MutualRow, MutualLayer, MutualRows};
+ghost use Rattle.tables.specs.Rows.{row, RowsRight, MutualRow, MutualRows};
 ghost use Rattle.tables.specs.Stored.{stored_rows};
 
+use crate::each::all_places;
 use crate::rows::Rows;
 
 // Rows that are right: each ascends, has only vertices, and leaves out the vertex itself.
@@ -33,15 +34,10 @@ impl RightRows {
     pub(crate) fn are_mutual(&self) -> bool
         ensures { IsTrue result ↔ MutualRows (right_rows self.now) }
     {
-        (0..self.rows.size.layers).all(|layer| self.is_mutual_layer(layer))
-    }
-
-    // Whether each row of the layer is mutual.
-    fn is_mutual_layer(&self, layer: u8) -> bool
-        requires layer { layer < self.now.rows.size.layers }
-        ensures { IsTrue result ↔ MutualLayer (right_rows self.now) layer }
-    {
-        (0..self.rows.size.vertices).all(|vertex| self.is_mutual_row(layer, vertex))
+        all_places(
+            self.rows.size,
+            |layer, vertex| self.is_mutual_row(layer, vertex),
+        )
     }
 
     // Whether each neighbour of a vertex in a layer has the vertex for its neighbour there.

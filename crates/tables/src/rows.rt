@@ -1,10 +1,12 @@
 // Rows of neighbours, and the rules that they keep.
 
-ghost use Rattle.std.specs.Prelude.{◌≡◌, ◌<◌, ◌↔◌, IsTrue, IfOk, IfErr};
+ghost use Rattle.std.specs.Prelude.{◌≡◌, ◌<◌, ◌↔◌, IsTrue, IsOk, IfOk, IfErr};
+ghost use Rattle.network.specs.Sizes.{WithinLimits};
 ghost use Rattle.vertex_set.specs.Refusals.{FirstBroken};
-ghost use Rattle.tables.specs.Rows.{rows, row, Shaped, RowRight, RightLayer, RowsRight};
+ghost use Rattle.tables.specs.Rows.{rows, row, Shaped, RowRight, RowsRight};
 ghost use Rattle.tables.specs.Refusals.{refusal, Rule};
 
+use crate::each::all_places;
 use crate::error::TableError;
 use network::Size;
 
@@ -13,7 +15,8 @@ use network::Size;
 #[derive(Drop)]
 pub(crate) struct Rows {
     pub(crate) size: Size<1024>,
-    // The two lists are kept as they are given: the rules, and what is refused, are about them.
+    // The two lists are kept as they are given: another form would need memory, which `new` does not
+    // ask for.
     starts: Vec<u32>,
     neighbours: Vec<u16>,
     ghost shaped: { Shaped (rows size.vertices size.layers starts.items neighbours.items) },
@@ -29,6 +32,8 @@ impl Rows {
         starts: Vec<u32>,
         neighbours: Vec<u16>,
     ) -> Result<Rows, TableError>
+        ensures made { IsOk result ↔ (WithinLimits 1024 vertices layers
+            × Shaped (rows vertices layers starts.items neighbours.items)) }
         ensures ok { IfOk result
             (λ made. stored_rows made ≡ rows vertices layers starts.items neighbours.items) }
         ensures err { IfErr result
@@ -45,7 +50,9 @@ impl Rows {
         })
     }
 
-    // The row of the vertex in the layer.
+    // The row of the vertex in the layer. (That the two are within is asked for: it ties them to this
+    // table, so it is no invariant of theirs; and `None` for others would leave each test to say
+    // what a missing row means.)
     pub(crate) fn row(&self, layer: u8, vertex: u16) -> &[u16]
         requires layer { layer < self.now.size.layers }
         requires vertex { vertex < self.now.size.vertices }
@@ -59,16 +66,9 @@ impl Rows {
     pub(crate) fn are_right(&self) -> bool
         ensures { IsTrue result ↔ RowsRight (stored_rows self.now) }
     {
-        (0..self.size.layers).all(|layer| self.is_right_layer(layer))
-    }
-
-    // Whether each row of the layer is right.
-    fn is_right_layer(&self, layer: u8) -> bool
-        requires { layer < self.now.size.layers }
-        ensures { IsTrue result ↔ RightLayer (stored_rows self.now) layer }
-    {
-        let vertices = self.size.vertices;
-        (0..vertices).all(|vertex| is_right_row(self.row(layer, vertex), vertices, vertex))
+        all_places(self.size, |layer, vertex| {
+            is_right_row(self.row(layer, vertex), self.size.vertices, vertex)
+        })
     }
 }
 

@@ -90,7 +90,7 @@ module _ (ws : List ℕ) (i v : ℕ) (word : i ≡ v / 64) (long : length ws ≡
     taken_out_size = count_more (member (flipped ws i v)) (member ws) v 1024 (flipped_here ∙ ap not was) was flipped_other within
 
 -- the members in the first i + 1 words are those in the first i, and the bits of word i
-pub count_word : (ws : List ℕ) (i : ℕ) → get_or ws i 0 < 2 ^ 64 → count (member ws) (64 * (i + 1)) ≡ count (member ws) (64 * i) + ones (get_or ws i 0)
+count_word : (ws : List ℕ) (i : ℕ) → get_or ws i 0 < 2 ^ 64 → count (member ws) (64 * (i + 1)) ≡ count (member ws) (64 * i) + ones (get_or ws i 0)
 count_word ws i l =
     let next : 64 * (i + 1) ≡ 64 * i + 64 = omega arith in
     let here : count (λ k. member ws (64 * i + k)) 64 ≡ ones (get_or ws i 0) = count_same _ (bit (get_or ws i 0)) 64 (λ k m. member_at ws i k m) ∙ sym (ones_count 64 (get_or ws i 0) l) in

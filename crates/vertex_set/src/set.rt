@@ -8,10 +8,12 @@ use std::array;
 
 pub(crate) mod members;
 
-// A set of vertices 0 to 1,023: bit v % 64 of word v / 64 says whether v is a member.
+// A set of vertices 0 to 1,023: bit v % 64 of word v / 64 says whether v is a member. (It has no
+// model: clauses and theorems speak of the test of membership, which cannot be a model's value.)
 #[derive(Clone, Copy, PartialEq, Eq, Debug)]
 pub struct VertexSet {
-    // Words and a count, and no set of the library's: a set is copied, and needs no heap.
+    // Words, and no set of the library's: a set is copied, and needs no heap. The count stands beside
+    // them, since a set always knows how many members it has.
     words: [u64; 16],
     len: u16,
     ghost limited: { Limited (member words) },

@@ -8,3 +8,4 @@ mod table;
 
 pub use error::WeightError;
 pub use table::WeightTable;
+pub use vertex_set::Refusal;

@@ -1,4 +1,5 @@
-ghost use Rattle.std.specs.Prelude.{◌≡◌, ◌<◌, ◌↔◌, IsTrue, IfOk, IfErr};
+ghost use Rattle.std.specs.Prelude.{◌≡◌, ◌<◌, ◌↔◌, IsTrue, IsOk, IfOk, IfErr};
+ghost use Rattle.network.specs.Sizes.{WithinLimits};
 ghost use Rattle.vertex_set.specs.Refusals.{FirstBroken};
 ghost use Rattle.weights.specs.Weights.{weights as given, Row, Full, NoOwnIn, NoOwn};
 ghost use Rattle.weights.specs.Refusals.{refusal, Rule};
@@ -11,7 +12,7 @@ use network::Size;
 #[derive(Drop)]
 pub(crate) struct Rows {
     pub(crate) size: Size<128>,
-    // One list, kept as it is given: the rules, and what is refused, are about it.
+    // One list, kept as it is given: another form would need memory, which `new` does not ask for.
     weights: Vec<u16>,
     ghost full: { Full (given size.vertices size.layers weights.items) },
 }
@@ -21,6 +22,8 @@ impl Rows {
 
     // The rows of the given weights, if size and number keep the rules; else the first rule broken.
     pub(crate) fn new(vertices: u16, layers: u8, weights: Vec<u16>) -> Result<Rows, WeightError>
+        ensures made { IsOk result ↔ (WithinLimits 128 vertices layers
+            × Full (given vertices layers weights.items)) }
         ensures ok { IfOk result
             (λ rows. weights_of_rows rows ≡ given vertices layers weights.items) }
         ensures err { IfErr result
@@ -33,7 +36,8 @@ impl Rows {
         Ok(Rows { size, weights })
     }
 
-    // The row of the vertex in the layer.
+    // The row of the vertex in the layer. (That the two are within is asked for: it ties them to this
+    // table, so it is no invariant of theirs.)
     pub(crate) fn row(&self, layer: u8, vertex: u16) -> &[u16]
         requires layer { layer < self.now.size.layers }
         requires vertex { vertex < self.now.size.vertices }
@@ -51,7 +55,8 @@ impl Rows {
         (0..self.size.layers).all(|layer| self.has_no_own_in(layer))
     }
 
-    // Whether no vertex has a weight in its own row, in the layer.
+    // Whether no vertex has a weight in its own row, in the layer. (With one `all` inside the other
+    // the proof does not close: what the outer closure says cannot be named.)
     fn has_no_own_in(&self, layer: u8) -> bool
         requires { layer < self.now.size.layers }
         ensures { IsTrue result ↔ NoOwnIn (weights_of_rows self.now) layer }

@@ -2,7 +2,7 @@ use Rattle.std.proofs.Common.{rules}
 use borrow.Author.Tests.{tests}
 use Rattle.weights.specs.Weights.{NoOwnIn}
 use Rattle.weights.specs.Rows.{weights_of_rows}
-use Rattle.network.proofs.Ranges.{each_below}
+use Rattle.weights.proofs.Ranges.{each_below}
 use Rattle.weights.proofs.rows.Rows.has_no_own.Goals as goal
 
 pub returns : goal.returns
