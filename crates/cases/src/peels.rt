@@ -7,7 +7,8 @@ use std::test::Fail;
 use tables::NeighbourTable;
 use vertex_set::VertexSet;
 
-// Peels into a group that holds 9 alone, and gives the number of the refusal, if it is refused.
+// Peels into a group that holds 9 alone, and gives the number of the refusal, if it is refused. (The
+// arguments are those of `peel`.)
 fn peeled(
     network: &NeighbourTable,
     order: &[u8],

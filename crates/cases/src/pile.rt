@@ -12,7 +12,7 @@ use views::{Relative, Restricted};
 use weights::WeightTable;
 
 // Puts the core over a pile of views into the group: a restriction over relative strengths over a
-// restriction over a weight table.
+// restriction over a weight table. (Order, vector and group come as `peel` has them.)
 pub(crate) fn peel_pile(
     table: &WeightTable,
     lower: VertexSet,

@@ -6,12 +6,13 @@ use tables::{NeighbourTable, TableError};
 use vertex_set::Refusal;
 use weights::{WeightError, WeightTable};
 
-// The number of the refusal, if it is one.
+// The number of the refusal, if it is one. (The number is what is promised, so the tests compare it.)
 pub(crate) fn refused<T: Drop, E: Refusal + Drop>(outcome: Result<T, E>) -> Option<u8> {
     outcome.err().map(|e| e.number())
 }
 
-// The neighbour table of the given lists, or its refusal.
+// The neighbour table of the given lists, or its refusal. (The program has one like it: a crate for
+// the two would be longer than they are. The arguments are those of the constructor.)
 pub(crate) fn made(
     heap: Global,
     vertices: u16,
@@ -24,7 +25,7 @@ pub(crate) fn made(
     Ok(NeighbourTable::new(vertices, layers, starts, neighbours))
 }
 
-// The table of the given weights, or its refusal.
+// The table of the given weights, or its refusal. (The arguments are those of the constructor.)
 pub(crate) fn weighed(
     heap: Global,
     vertices: u16,

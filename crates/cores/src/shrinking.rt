@@ -7,7 +7,8 @@ use vertex_set::VertexSet;
 
 // Peels the group: takes away a vertex that falls short in a layer, until none does. What is left
 // is the largest group within it that meets the vector; so a group that contains the core becomes
-// the core. A demand that the vector lacks counts as 0.
+// the core. A demand that the vector lacks counts as 0. (Order and vector come as two lists, as `peel`
+// has them.)
 pub fn shrink<N: Network>(network: &N, order: &[u8], vector: &[u16], group: &mut VertexSet)
     ensures { CoreWithin (N.Network.means network.now) order.now vector.now
         (members group.old) (members group.new) }

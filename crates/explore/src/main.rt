@@ -126,7 +126,8 @@ fn show_outcome<T: Drop, E: Refusal + Drop>(
     Ok(())
 }
 
-// Prints the vector with its core, or the number of the refusal.
+// Prints the vector with its core, or the number of the refusal. (Order and vector come as `peel` has
+// them.)
 fn show_core<N: Network>(
     rt: &(impl Print + Alloc<A = Global>),
     network: &N,

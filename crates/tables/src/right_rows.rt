@@ -40,7 +40,8 @@ impl RightRows {
         )
     }
 
-    // Whether each neighbour of a vertex in a layer has the vertex for its neighbour there.
+    // Whether each neighbour of a vertex in a layer has the vertex for its neighbour there. (Within,
+    // as for `Rows::row`.)
     fn is_mutual_row(&self, layer: u8, vertex: u16) -> bool
         requires layer { layer < self.now.rows.size.layers }
         requires vertex { vertex < self.now.rows.size.vertices }
@@ -50,7 +51,7 @@ impl RightRows {
         row.iter().all(|u| self.has_neighbour(layer, *u, vertex))
     }
 
-    // Whether the vertex has the neighbour in the layer.
+    // Whether the vertex has the neighbour in the layer. (Within, as for `Rows::row`.)
     fn has_neighbour(&self, layer: u8, vertex: u16, neighbour: u16) -> bool
         requires layer { layer < self.now.rows.size.layers }
         requires vertex { vertex < self.now.rows.size.vertices }

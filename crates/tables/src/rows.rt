@@ -26,6 +26,7 @@ impl Rows {
     ghost use Rattle.tables.specs.Stored.{stored_rows};
 
     // The given rows, if their size and shape are right; else the first of the two that is not.
+    // (The arguments come apart: here they are put together.)
     pub(crate) fn new(
         vertices: u16,
         layers: u8,
