@@ -1,14 +1,14 @@
 // Cores, and what peeling refuses.
 
-use crate::sample::{four, made, refused};
+use crate::sample::{four, neighbour_table, refusal};
 use cores::peel;
 use network::Network;
 use std::test::Fail;
 use tables::NeighbourTable;
 use vertex_set::VertexSet;
 
-// Peels into a group that holds 9 alone, and gives the number of the refusal, if it is refused. (The
-// arguments are those of `peel`.)
+// Peels into a group that holds 9 alone, and gives the number of the refusal, if it is refused.
+// (The arguments are those of `peel`.)
 fn peeled(
     network: &NeighbourTable,
     order: &[u8],
@@ -17,7 +17,7 @@ fn peeled(
 ) -> Result<Option<u8>, Fail> {
     *group = VertexSet::new();
     group.insert(9)?;
-    Ok(refused(peel(network, order, vector, group)))
+    Ok(refusal(peel(network, order, vector, group)))
 }
 
 #[test]
@@ -50,7 +50,7 @@ fn refusals(rt: HostRuntime) -> Result<(), Fail> {
 // 0 has two neighbours until 1 and 2, who have one each, are gone.
 #[test]
 fn unravels(rt: HostRuntime) -> Result<(), Fail> {
-    let star = made(rt.alloc(), 3, 1, &[0, 2, 3, 4], &[1, 2, 0, 0])??;
+    let star = neighbour_table(rt.alloc(), 3, 1, &[0, 2, 3, 4], &[1, 2, 0, 0])??;
     let mut group = VertexSet::new();
     assert_eq!(rt; peeled(&star, &[0], &[2], &mut group)?, None);
     assert!(rt; group.is_empty());

@@ -1,6 +1,6 @@
 // The highest strength that each kind states.
 
-use crate::sample::{four, weighed};
+use crate::sample::{four, weight_table};
 use network::Network;
 use std::test::Fail;
 use vertex_set::VertexSet;
@@ -17,7 +17,7 @@ fn constants(rt: HostRuntime) -> Result<(), Fail> {
     assert_eq!(rt; stated(&ties), [1023, 1023]);
     let within = Restricted::new(&ties, VertexSet::new());
     assert_eq!(rt; stated(&within), [1023, 1023]);
-    let weights = weighed(rt.alloc(), 1, 1, &[0])??;
+    let weights = weight_table(rt.alloc(), 1, 1, &[0])??;
     assert_eq!(rt; stated(&weights), [65535, 65535]);
     let relative = Relative::new(&weights);
     assert_eq!(rt; stated(&relative), [1000, 1000]);

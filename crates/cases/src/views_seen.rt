@@ -1,7 +1,7 @@
 // Networks seen through others: restricted, relative, and a pile of both.
 
 use crate::pile::peel_pile;
-use crate::sample::{four, weighed};
+use crate::sample::{four, weight_table};
 use cores::peel;
 use network::Network;
 use std::test::Fail;
@@ -41,7 +41,7 @@ fn relative(rt: HostRuntime) -> Result<(), Fail> {
     assert_eq!(rt; view.strength(0, &group, 3), 0);
     assert_eq!(rt; view.strength(1, &group, 0), 1000);
     assert_eq!(rt; view.strength(2, &group, 0), 0);
-    let weights = weighed(rt.alloc(), 3, 1, &[0, 2, 1, 65535, 0, 65535, 0, 0, 0])??;
+    let weights = weight_table(rt.alloc(), 3, 1, &[0, 2, 1, 65535, 0, 65535, 0, 0, 0])??;
     let view = Relative::new(&weights);
     assert_eq!(rt; view.strength(0, &group, 0), 666);
     assert_eq!(rt; view.strength(0, &group, 1), 1000);
@@ -52,7 +52,7 @@ fn relative(rt: HostRuntime) -> Result<(), Fail> {
 #[test]
 fn pile(rt: HostRuntime) -> Result<(), Fail> {
     let weights = [0, 300, 100, 600, 300, 0, 50, 50, 100, 100, 0, 0, 9, 9, 9, 0];
-    let table = weighed(rt.alloc(), 4, 1, &weights)??;
+    let table = weight_table(rt.alloc(), 4, 1, &weights)??;
     let lower = VertexSet::below(3);
     let mut core = VertexSet::new();
     peel_pile(&table, lower, without_two(), &[0], &[750], &mut core)?;

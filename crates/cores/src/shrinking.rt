@@ -7,8 +7,8 @@ use vertex_set::VertexSet;
 
 // Peels the group: takes away a vertex that falls short in a layer, until none does. What is left
 // is the largest group within it that meets the vector; so a group that contains the core becomes
-// the core. A demand that the vector lacks counts as 0. (Order and vector come as two lists, as `peel`
-// has them.)
+// the core. A demand that the vector lacks counts as 0. (Order and vector come as two lists, as
+// `peel` has them.)
 pub fn shrink<N: Network>(network: &N, order: &[u8], vector: &[u16], group: &mut VertexSet)
     ensures { CoreWithin (N.Network.means network.now) order.now vector.now
         (members group.old) (members group.new) }
@@ -22,8 +22,8 @@ pub fn shrink<N: Network>(network: &N, order: &[u8], vector: &[u16], group: &mut
     }
 }
 
-// A member that falls short in a layer, if there is one. The search goes round from `first`, which is
-// for speed; no clause speaks of it. (Network, order, vector and group stay apart, here and in
+// A member that falls short in a layer, if there is one. The search goes round from `first`, which
+// is for speed; no clause speaks of it. (Network, order, vector and group stay apart, here and in
 // `shrink` and `is_weak`: through a struct each clause would be longer.)
 fn weak_from<N: Network>(
     network: &N,

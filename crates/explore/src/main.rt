@@ -49,8 +49,8 @@ fn run(rt: &(impl Print + Alloc<A = Global>)) -> anyhow::Result<()> {
     show_refusals(rt, &network)
 }
 
-// The table of the sample's vertices and layers with the given rows. (The tests have one like it, of
-// any size: a crate for the two would be longer than they are.)
+// The table of the sample's vertices and layers with the given rows. (The tests have one like it,
+// of any size: a crate for the two would be longer than they are.)
 fn sample(
     heap: Global,
     starts: &[u32],
@@ -126,8 +126,8 @@ fn show_outcome<T: Drop, E: Refusal + Drop>(
     Ok(())
 }
 
-// Prints the vector with its core, or the number of the refusal. (Order and vector come as `peel` has
-// them.)
+// Prints the vector with its core, or the number of the refusal. (Order and vector come as `peel`
+// has them.)
 fn show_core<N: Network>(
     rt: &(impl Print + Alloc<A = Global>),
     network: &N,

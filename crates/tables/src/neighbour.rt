@@ -20,8 +20,8 @@ pub struct NeighbourTable {
 impl NeighbourTable {
     ghost use Rattle.tables.specs.Neighbours.{rows_of};
 
-    // The table of the given rows, if they keep the rules; else the first rule that they break. (The
-    // four arguments come apart, as callers have them; `Rows` is what holds them together.)
+    // The table of the given rows, if they keep the rules; else the first rule that they break.
+    // (The four arguments come apart, as callers have them; `Rows` holds them together.)
     pub fn new(
         vertices: u16,
         layers: u8,

@@ -40,8 +40,8 @@ impl RightRows {
         )
     }
 
-    // Whether each neighbour of a vertex in a layer has the vertex for its neighbour there. (Within,
-    // as for `Rows::row`.)
+    // Whether each neighbour of a vertex in a layer has the vertex for its neighbour there.
+    // (Within, as for `Rows::row`.)
     fn is_mutual_row(&self, layer: u8, vertex: u16) -> bool
         requires layer { layer < self.now.rows.size.layers }
         requires vertex { vertex < self.now.rows.size.vertices }

@@ -15,8 +15,8 @@ use network::Size;
 #[derive(Drop)]
 pub(crate) struct Rows {
     pub(crate) size: Size<1024>,
-    // The two lists are kept as they are given: another form would need memory, which `new` does not
-    // ask for.
+    // The two lists are kept as they are given: another form would need memory, which `new` does
+    // not ask for.
     starts: Vec<u32>,
     neighbours: Vec<u16>,
     ghost shaped: { Shaped (rows size.vertices size.layers starts.items neighbours.items) },
@@ -51,9 +51,9 @@ impl Rows {
         })
     }
 
-    // The row of the vertex in the layer. (That the two are within is asked for: it ties them to this
-    // table, so it is no invariant of theirs; and `None` for others would leave each test to say
-    // what a missing row means.)
+    // The row of the vertex in the layer. (That the two are within is asked of callers: it ties
+    // them to this table, so no type of theirs can hold it; and `None` for others would leave each
+    // test to say what a missing row means.)
     pub(crate) fn row(&self, layer: u8, vertex: u16) -> &[u16]
         requires layer { layer < self.now.size.layers }
         requires vertex { vertex < self.now.size.vertices }

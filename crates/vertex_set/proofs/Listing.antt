@@ -10,12 +10,16 @@ module _ (s : Set) where
   abbrev among : ℕ → ℕ → List ℕ
   among v n = filter s (range_with_len v n)
 
+  -- v, if b, and then the members among the n vertices behind it
+  abbrev begun : Bool → ℕ → ℕ → List ℕ
+  begun b v n = cond b (v ∷ among (v + 1) n) (among (v + 1) n)
+
   -- what is listed is a member, and at least v
   stands : (v n i : ℕ) → i < length (among v n) → (v ≤ get_or (among v n) i 0) × (get_or (among v n) i 0 ∈ s)
   stands v zero i l = absurd (not-suc-le-zero l)
   stands v (suc n) i l = go (stands (v + 1) n) (s v) refl i l
     where
-      go : ((i : ℕ) → i < length (among (v + 1) n) → (v + 1 ≤ get_or (among (v + 1) n) i 0) × (get_or (among (v + 1) n) i 0 ∈ s)) → (b : Bool) → s v ≡ b → (i : ℕ) → i < length (cond b (v ∷ among (v + 1) n) (among (v + 1) n)) → (v ≤ get_or (cond b (v ∷ among (v + 1) n) (among (v + 1) n)) i 0) × (get_or (cond b (v ∷ among (v + 1) n) (among (v + 1) n)) i 0 ∈ s)
+      go : ((i : ℕ) → i < length (among (v + 1) n) → (v + 1 ≤ get_or (among (v + 1) n) i 0) × (get_or (among (v + 1) n) i 0 ∈ s)) → (b : Bool) → s v ≡ b → (i : ℕ) → i < length (begun b v n) → (v ≤ get_or (begun b v n) i 0) × (get_or (begun b v n) i 0 ∈ s)
       go later true e zero m = (omega arith, e)
       go later true e (suc i) m = let r = later i (omega arith) in (omega (arith, r.0), r.1)
       go later false e i m = let r = later i m in (omega (arith, r.0), r.1)
@@ -25,7 +29,7 @@ module _ (s : Set) where
   rises v zero i j l m = absurd (not-suc-le-zero m)
   rises v (suc n) i j l m = go (rises (v + 1) n) (s v) i j l m
     where
-      go : ((i j : ℕ) → i < j → j < length (among (v + 1) n) → get_or (among (v + 1) n) i 0 < get_or (among (v + 1) n) j 0) → (b : Bool) (i j : ℕ) → i < j → j < length (cond b (v ∷ among (v + 1) n) (among (v + 1) n)) → get_or (cond b (v ∷ among (v + 1) n) (among (v + 1) n)) i 0 < get_or (cond b (v ∷ among (v + 1) n) (among (v + 1) n)) j 0
+      go : ((i j : ℕ) → i < j → j < length (among (v + 1) n) → get_or (among (v + 1) n) i 0 < get_or (among (v + 1) n) j 0) → (b : Bool) (i j : ℕ) → i < j → j < length (begun b v n) → get_or (begun b v n) i 0 < get_or (begun b v n) j 0
       go later true i zero a b = absurd (not-suc-le-zero a)
       go later true zero (suc j) a b = omega (arith, stands (v + 1) n j (omega arith))
       go later true (suc i) (suc j) a b = later i j (omega arith) (omega arith)
@@ -36,7 +40,7 @@ module _ (s : Set) where
   found v zero u l m e = absurd (omega arith)
   found v (suc n) u l m e = go (s v) refl (cases_eq u v) (found (v + 1) n u)
     where
-      go : (b : Bool) → s v ≡ b → (u ≡ v) ⊎ (u ≡ v → ⊥) → (v + 1 ≤ u → u < v + 1 + n → u ∈ s → Among u (among (v + 1) n)) → Among u (cond b (v ∷ among (v + 1) n) (among (v + 1) n))
+      go : (b : Bool) → s v ≡ b → (u ≡ v) ⊎ (u ≡ v → ⊥) → (v + 1 ≤ u → u < v + 1 + n → u ∈ s → Among u (among (v + 1) n)) → Among u (begun b v n)
       go true f (inl d) later = (0, omega arith, sym d)
       go true f (inr d) later = let a = later (omega arith) (omega arith) e in (suc a.0, omega (arith, a.1), a.2)
       go false f (inl d) later = absurd (both_ways (s v) f (subst (λ (x : ℕ). x ∈ s) d e))
@@ -46,7 +50,7 @@ module _ (s : Set) where
   none_among v zero none = refl
   none_among v (suc n) none = go (none_among (v + 1) n (λ u l. none u (omega arith))) (s v) refl
     where
-      go : among (v + 1) n ≡ [] → (b : Bool) → s v ≡ b → cond b (v ∷ among (v + 1) n) (among (v + 1) n) ≡ []
+      go : among (v + 1) n ≡ [] → (b : Bool) → s v ≡ b → begun b v n ≡ []
       go later true e = absurd (none v (omega arith) e)
       go later false e = later
 
@@ -54,7 +58,7 @@ module _ (s : Set) where
   first_among v zero u m e f = absurd (omega (arith, f.from))
   first_among v (suc n) u m e f = go (first_among (v + 1) n u m) (s v) refl (cases_eq u v)
     where
-      go : (v + 1 + n ≡ u + 1 + m → FirstFrom s (v + 1) u → among (v + 1) n ≡ u ∷ among (u + 1) m) → (b : Bool) → s v ≡ b → (u ≡ v) ⊎ (u ≡ v → ⊥) → cond b (v ∷ among (v + 1) n) (among (v + 1) n) ≡ u ∷ among (u + 1) m
+      go : (v + 1 + n ≡ u + 1 + m → FirstFrom s (v + 1) u → among (v + 1) n ≡ u ∷ among (u + 1) m) → (b : Bool) → s v ≡ b → (u ≡ v) ⊎ (u ≡ v → ⊥) → begun b v n ≡ u ∷ among (u + 1) m
       go later true d (inl h) = let long : n ≡ m = omega arith in rw (h, long)
       go later true d (inr h) = absurd (f.first v (omega arith) (omega (arith, f.from)) d)
       go later false d (inl h) = absurd (both_ways (s v) d (subst (λ (x : ℕ). x ∈ s) h f.here))

@@ -12,8 +12,8 @@ pub(crate) mod members;
 // model: clauses and theorems speak of the test of membership, which cannot be a model's value.)
 #[derive(Clone, Copy, PartialEq, Eq, Debug)]
 pub struct VertexSet {
-    // Words, and no set of the library's: a set is copied, and needs no heap. The count stands beside
-    // them, since a set always knows how many members it has.
+    // Words, and no set of the library's: a set is copied, and needs no heap. The count stands
+    // beside them, since a set always knows how many members it has.
     words: [u64; 16],
     len: u16,
     ghost limited: { Limited (member words) },
@@ -37,9 +37,8 @@ impl VertexSet {
     pub fn below(n: u16) -> VertexSet
         ensures { Same (members result) (below (min n 1024)) }
     {
-        let len = n.min(1024);
-        let words = array::from_fn(|i| low_bits(len.saturating_sub(64 * i as u16)));
-        VertexSet { words, len }
+        let n = n.min(1024);
+        VertexSet::of_words(array::from_fn(|i| low_bits(n.saturating_sub(64 * i as u16))))
     }
 
     // Whether v is a member; a vertex of 1,024 or more never is.

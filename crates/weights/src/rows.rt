@@ -37,9 +37,9 @@ impl Rows {
         Ok(Rows { size, weights })
     }
 
-    // The row of the vertex in the layer. (That the two are within is asked for: it ties them to this
-    // table, so it is no invariant of theirs; and `None` for others would leave each test to say
-    // what a missing row means.)
+    // The row of the vertex in the layer. (That the two are within is asked of callers: it ties
+    // them to this table, so no type of theirs can hold it; and `None` for others would leave each
+    // test to say what a missing row means.)
     pub(crate) fn row(&self, layer: u8, vertex: u16) -> &[u16]
         requires layer { layer < self.now.size.layers }
         requires vertex { vertex < self.now.size.vertices }
@@ -57,10 +57,10 @@ impl Rows {
         (0..self.size.layers).all(|layer| self.has_no_own_in(layer))
     }
 
-    // Whether no vertex has a weight in its own row, in the layer. (Within, as for `row`. The walk of
-    // `tables`, `all_places`, is not shared: it would be public, and it asks that its test may be
-    // called, where no public function asks for anything. With one `all` inside the other the proof
-    // does not close: what the outer closure says cannot be named.)
+    // Whether no vertex has a weight in its own row, in the layer. (Within, as for `row`. The walk
+    // of `tables`, `all_places`, is not shared: it would be public, and it asks that its test may
+    // be called, where no public function asks for anything. With one `all` inside the other the
+    // proof does not close: what the outer closure says cannot be named.)
     fn has_no_own_in(&self, layer: u8) -> bool
         requires { layer < self.now.size.layers }
         ensures { IsTrue result ↔ NoOwnIn (weights_of_rows self.now) layer }

@@ -20,7 +20,7 @@ impl WeightTable {
     ghost use Rattle.weights.specs.WeightTable.{weights_of};
 
     // The table of the given weights, if they keep the rules; else the first rule that they break.
-    // (The three arguments come apart, as callers have them; `Rows` is what holds them together.)
+    // (The three arguments come apart, as callers have them; `Rows` holds them together.)
     pub fn new(vertices: u16, layers: u8, weights: Vec<u16>) -> Result<WeightTable, WeightError>
         ensures ok { IfOk result (λ table. weights_of table ≡ given vertices layers weights.items) }
         ensures kept { OnOk result (EachRule (given vertices layers weights.items)) }

@@ -40,7 +40,9 @@ impl VertexSet {
 
     // The smallest member that is at least v.
     pub fn first_from(&self, v: u16) -> Option<u16>
-        ensures { MatchOption result (NoneFrom (members self.now) v) (FirstFrom (members self.now) v) }
+        ensures { MatchOption result
+            (NoneFrom (members self.now) v)
+            (FirstFrom (members self.now) v) }
     {
         let start = usize::from(v / 64);
         let rest = self.words.get(start)? >> (v % 64);

@@ -13,6 +13,4 @@ pub returns-clause-steps : goal.returns-clause-steps
 returns-clause-steps c = first_listed (members c.args.self.now.set.now) c.args.self.now.from c.in_ok-v.v (ltb-true _ 1024 (c.args.self.now.set.now.limited _ c.in_ok-v.ensures.here)) c.in_ok-v.ensures
 
 pub returns-clause-goes : goal.returns-clause-goes
-returns-clause-goes c =
-    let e = first_listed (members c.args.self.now.set.now) c.args.self.now.from c.in_ok-v.v (ltb-true _ 1024 (c.args.self.now.set.now.limited _ c.in_ok-v.ensures.here)) c.in_ok-v.ensures in
-    search rules
+returns-clause-goes c = let e = returns-clause-steps c in search rules
