@@ -1,35 +1,17 @@
 -- What searches through layers and vertices found.
-use Rattle.std.proofs.Common.{◌≡◌, ℕ, ◌+◌, ◌-◌, ◌<◌, ◌≤◌, min, Bool, true, false, ◌⊎◌, ◌↔◌, List, ◌++◌, length, get_or, take, Option, Some, None, MatchOption, IsTrue, IfNone, sym, refl, ap, ◌∙◌, subst, inl, inr, arith}
+use Rattle.std.proofs.Common.{◌≡◌, ℕ, ◌<◌, ◌≤◌, Bool, true, false, ◌⊎◌, ◌↔◌, length, get_or, take, Option, Some, None, MatchOption, IsTrue, IfNone, sym, refl, ap, ◌∙◌, subst, inl, inr, arith}
 use Rattle.std.specs.Bool.{MatchBool}
-use Rattle.std.specs.List.{zip, enumerate_from, range_with_len, Contains, AllWithin, HoldsAt}
+use Rattle.std.specs.List.{zip, enumerate_from, Contains, AllWithin, HoldsAt}
 use Rattle.std.proofs.lemmas.Bool.{cases_lt, cases_order}
 use Rattle.std.proofs.lemmas.List.{get_or_past, get_or-take, length-take}
-use Rattle.std.proofs.lemmas.List.Elements.{All-contains, All-from_all_within, Contains-get_or, Contains-append_left, Contains-append_right}
+use Rattle.std.proofs.lemmas.List.Elements.{Contains-get_or}
 use Rattle.std.proofs.lemmas.Grind.{get_or_default_zero}
-use Rattle.std.proofs.lemmas.List.FromFn.{length-range_with_len, get_or-range_with_len, length-enumerate_from, get_or-enumerate_from}
+use Rattle.std.proofs.lemmas.List.FromFn.{length-enumerate_from, get_or-enumerate_from}
 use Rattle.std.proofs.lemmas.Slice.Zip.{length-zip, get_or-zip}
 use Rattle.vertex_set.specs.Sets.{Set, ◌∈◌}
 use Rattle.network.specs.Networks.{Multilayer}
-use Rattle.cores.specs.Cores.{Order, Vector, ValidOrder, Strong, Short, EachStrong}
+use Rattle.cores.specs.Cores.{Order, Vector, ValidOrder, Strong, Short}
 use Rattle.cores.proofs.Theory.{short_or_strong}
-
--- the vertices below n, going round from the first
-abbrev around : ℕ → ℕ → List ℕ
-around first n = range_with_len first (n - first) ++ range_with_len 0 (min first n)
-
--- each of the n numbers from a on is one of them
-among_range : (a n v : ℕ) → a ≤ v → v < a + n → Contains (range_with_len a n) v
-among_range a n v l m =
-    let place : a + (v - a) ≡ v = omega arith in
-    subst (Contains (range_with_len a n)) (get_or-range_with_len a n (v - a) 0 (omega arith) ∙ place) (Contains-get_or (range_with_len a n) (v - a) 0 (omega (arith, length-range_with_len a n)))
-
--- going round meets each vertex below n
-meets_each : (first n v : ℕ) → v < n → Contains (around first n) v
-meets_each first n v l = go (cases_lt v first)
-  where
-    go : (v < first) ⊎ (first ≤ v) → Contains (around first n) v
-    go (inl a) = Contains-append_right (range_with_len first (n - first)) _ v (among_range 0 (min first n) v (omega arith) (omega arith))
-    go (inr a) = Contains-append_left _ (range_with_len 0 (min first n)) v (among_range first (n - first) v a (omega arith))
 
 module _ (layers : ℕ) (o : Order) where
   -- at this place of the list is a layer of the network that does not stand before it
@@ -74,10 +56,10 @@ module _ (g : Multilayer) (o : Order) (k : Vector) (s : Set) where
   abbrev pub Stays : ℕ → Type 0
   Stays v = v ∈ s → Short g o k s v → ⊥
 
-  -- where a search round all vertices found none that falls short, each is strong
-  pub strong_around : (first n : ℕ) → n ≡ g.vertices → (Q : ℕ → Type 0) (r : Option ℕ) → MatchOption r (AllWithin Stays (around first n) 0 (length (around first n))) Q → IfNone r (EachStrong g o k s)
-  strong_around first n same Q (Some v) found = tt
-  strong_around first n same Q None all = λ v l m. go v (All-contains Stays _ v (All-from_all_within Stays _ all) (meets_each first n v (omega arith)) m) (short_or_strong g o k s v)
+  -- where a search from a up to b found none that falls short, each member there is strong
+  pub strong_between : (a b : ℕ) (Q : ℕ → Type 0) (r : Option ℕ) → MatchOption r ((v : ℕ) → a ≤ v → v < b → Stays v) Q → IfNone r ((v : ℕ) → a ≤ v → v < b → v ∈ s → Strong g o k s v)
+  strong_between a b Q (Some v) found = tt
+  strong_between a b Q None all = λ v l m e. go v (all v l m e) (short_or_strong g o k s v)
     where
       go : (v : ℕ) → (Short g o k s v → ⊥) → Short g o k s v ⊎ Strong g o k s v → Strong g o k s v
       go v stays (inl short) = absurd (stays short)

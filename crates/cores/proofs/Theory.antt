@@ -38,9 +38,9 @@ settled g o k a all b c is same sub largest strong = record {
     inside : c ⊆ below g.vertices
     inside v e = sym (is v) ∙ (parts v e).1
 
--- the core within all vertices is the core
-pub core_within_all : (g : Multilayer) (o : Order) (k : Vector) (all c : Set) → Same all (below g.vertices) → CoreWithin g o k all c → Core g o k c
-core_within_all g o k all c is w = record { meets = w.meets; largest = λ s m. w.largest s m (λ v e. is v ∙ m.inside v e) }
+-- the core within a group that has all vertices is the core
+pub core_within_all : (g : Multilayer) (o : Order) (k : Vector) (a c : Set) → below g.vertices ⊆ a → CoreWithin g o k a c → Core g o k c
+core_within_all g o k a c all w = record { meets = w.meets; largest = λ s m. w.largest s m (λ v e. all v (m.inside v e)) }
 
 -- v falls short within s, or is strong there
 pub short_or_strong : (g : Multilayer) (o : Order) (k : Vector) (s : Set) (v : ℕ) → Short g o k s v ⊎ Strong g o k s v

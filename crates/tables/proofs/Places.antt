@@ -8,7 +8,7 @@ use Rattle.tables.specs.Rows.{Rows, Shaped, Within, row, row_at}
 
 module _ (t : Rows) (s : Shaped t) (l v : ℕ) (a : l < t.layers) (b : v < t.vertices) where
   -- the row of the vertex in the layer lies within the lists
-  row_within : Within t.starts t.neighbours (l * t.vertices + v)
+  pub row_within : Within t.starts t.neighbours (l * t.vertices + v)
   row_within =
       let place = digits_lt a b in
       let up : IsNonDecreasing t.starts = IsNonDecreasingBy-from_all_adjacent (λ x. x) t.starts (λ k d m. omega (arith, s.2 k (omega arith), get_or_default t.starts k d 0 (omega arith), get_or_default t.starts (k + 1) d 0 m)) in (

@@ -1,12 +1,12 @@
 -- What tests of the elements of a list, or of each vertex in each layer, tell.
-use Rattle.std.proofs.Common.{◌≡◌, ◌∙◌, ℕ, ◌+◌, ◌<◌, ◌≤◌, Bool, true, false, eqb, leb, ltb, List, [], ◌∷◌, length, get_or, sym, refl, ap, ⊎_elim, arith}
-use Rattle.std.proofs.lemmas.Bool.{both_ways, false≢true, leb-true, le-leb, ltb-true, lt-ltb, eqb-true, eq-eqb, and_parts, and_from, or_cases, or_left, or_right}
+use Rattle.std.proofs.Common.{◌≡◌, ◌∙◌, ℕ, zero, suc, ◌+◌, ◌<◌, ◌≤◌, Bool, true, false, not, ◌&&◌, eqb, leb, ltb, List, [], ◌∷◌, length, get_or, sym, refl, ap, subst, ⊎_elim, arith}
+use Rattle.std.proofs.lemmas.Bool.{both_ways, false≢true, leb-true, le-leb, ltb-true, lt-ltb, eqb-true, eq-eqb, ne_eqb, not-true, not_from_false, and_parts, and_from, or_cases, or_left, or_right}
+use Rattle.std.proofs.lemmas.Fn.{always_returns_same}
 use Rattle.std.proofs.lemmas.List.Kept.{AllPairs-from_increasing}
 use Rattle.std.proofs.lemmas.List.Sorted.{answers_always}
-use Rattle.std.specs.Prelude.{◌≢◌, ◌↔◌, IsTrue}
-use Rattle.std.specs.Bool.{MatchBool}
+use Rattle.std.specs.Prelude.{◌↔◌, IsTrue}
 use Rattle.std.specs.Fn.{Called, ComputesOnPairs}
-use Rattle.std.specs.List.{IsAllAdjacentAnswer, AllWithin, HoldsAt, list_all}
+use Rattle.std.specs.List.{IsAllAdjacentAnswer, list_all}
 use denote.Param.Members.{Mut}
 use denote.Ref.{Bor}
 use Rattle.vertex_set.specs.Sets.{◌∈◌}
@@ -23,18 +23,31 @@ module _ {F : Type 0} {g : Mut F (Bor ℕ × (Bor ℕ × Unit {0})) Bool} {f : F
       go true h = ((λ _. λ k l. leb-true _ _ (sym (h k 0 l))), λ _. refl)
       go false h = ((λ none. absurd (false≢true none)), λ up. absurd (both_ways _ (sym (h.2 0)) (le-leb _ _ (up h.0 h.1))))
 
-  -- each element is below the next
-  pub ascends : ((f : F) (a : Bor ℕ × (Bor ℕ × Unit {0})) (b : Bool) (q : F) → Called g f a b q → b ≡ ltb a.0.now a.1.0.now) → IsTrue r ↔ Ascending xs
-  ascends computes = go r (says ltb (answers_always g (λ a b. b ≡ ltb a.0.now a.1.0.now) f computes))
+  -- each element is below the next, and the next passes a test
+  pub ascends : (test : ℕ → Bool) → ((a : Bor ℕ × (Bor ℕ × Unit {0})) (b : Bool) (q : F) → Called g f a b q → (b ≡ (ltb a.0.now a.1.0.now && test a.1.0.now)) × (q ≡ f)) → IsTrue r ↔ (Ascending xs × ((k : ℕ) → k + 1 < length xs → test (get_or xs (k + 1) 0) ≡ true))
+  ascends test computes = go r (says (λ x y. ltb x y && test y) (always_returns_same g (λ a b. b ≡ (ltb a.0.now a.1.0.now && test a.1.0.now)) f computes))
     where
-      go : (r : Bool) → IsAllAdjacentAnswer (λ x y b. b ≡ ltb x y) xs r → IsTrue r ↔ Ascending xs
-      go true h = ((λ _. λ i j l m. AllPairs-from_increasing xs (λ k n. ltb-true _ _ (sym (h k 0 n))) i j 0 l m), λ _. refl)
-      go false h = ((λ none. absurd (false≢true none)), λ up. absurd (both_ways _ (sym (h.2 0)) (lt-ltb _ _ (up h.0 (h.0 + 1) (omega arith) h.1))))
+      go : (r : Bool) → IsAllAdjacentAnswer (λ x y b. b ≡ (ltb x y && test y)) xs r → IsTrue r ↔ (Ascending xs × ((k : ℕ) → k + 1 < length xs → test (get_or xs (k + 1) 0) ≡ true))
+      go true h =
+          let both = λ (k : ℕ) (l : k + 1 < length xs). and_parts (ltb (get_or xs k 0) (get_or xs (k + 1) 0)) (test (get_or xs (k + 1) 0)) (sym (h k 0 l)) in
+          ((λ _. ((λ i j l m. AllPairs-from_increasing xs (λ k n. ltb-true _ _ (both k n).0) i j 0 l m), λ k l. (both k l).1)), λ _. refl)
+      go false h = ((λ none. absurd (false≢true none)), λ up. absurd (both_ways _ (sym (h.2 0)) (and_from _ _ (lt-ltb _ _ (up.0 h.0 (h.0 + 1) (omega arith) h.1)) (up.1 h.0 h.1))))
 
--- an ascending list is the right row of v just if each of its elements is a vertex other than v
-pub right_if : (n v : ℕ) (xs : List ℕ) (r : Bool) → Ascending xs → MatchBool r (AllWithin (λ u. (u < n) × (u ≢ v)) xs 0 (length xs)) ((k : ℕ) × (k < length xs) × HoldsAt (λ u. (u < n) × (u ≢ v) → ⊥) xs k) → IsTrue r ↔ RowRight n v xs
-right_if n v xs true up h = ((λ _. record { ascending = up; inside = λ i l. (h i 0 (omega arith) l).0; others = λ i l. (h i 0 (omega arith) l).1 }), λ _. refl)
-right_if n v xs false up h = ((λ none. absurd (false≢true none)), λ right. absurd (h.2 0 (right.inside h.0 h.1, right.others h.0 h.1)))
+module _ (n v : ℕ) where
+  -- whether u is one of n vertices, and not v
+  abbrev pub other : ℕ → Bool
+  other u = ltb u n && not (eqb u v)
+
+  -- a list is the right row of v just if each element is below the next, and the next a vertex other than v, where the first is one
+  pub right_if : (xs : List ℕ) (r : Bool) → (0 < length xs → other (get_or xs 0 0) ≡ true) → IsTrue r ↔ (Ascending xs × ((k : ℕ) → k + 1 < length xs → other (get_or xs (k + 1) 0) ≡ true)) → IsTrue r ↔ RowRight n v xs
+  right_if xs r first rest = ((λ yes. made (rest.0 yes)), λ right. rest.1 (right.ascending, λ k l. and_from _ _ (lt-ltb _ _ (right.inside (k + 1) l)) (not_from_false _ (ne_eqb _ _ (right.others (k + 1) l)))))
+    where
+      made : Ascending xs × ((k : ℕ) → k + 1 < length xs → other (get_or xs (k + 1) 0) ≡ true) → RowRight n v xs
+      made (up, next) = record { ascending = up; inside = λ i l. ltb-true _ n (and_parts _ _ (each i l)).0; others = λ i l same. both_ways _ (not-true _ (and_parts _ _ (each i l)).1) (eq-eqb _ v same) }
+        where
+          each : (i : ℕ) → i < length xs → other (get_or xs i 0) ≡ true
+          each zero l = first l
+          each (suc i) l = let place : i + 1 ≡ suc i = omega arith in subst (λ (x : ℕ). other (get_or xs x 0) ≡ true) place (next i (omega arith))
 
 -- a test passes a list if it passes each of its elements
 pub all_elements : (p : ℕ → Bool) (xs : List ℕ) → IsTrue (list_all p xs) ↔ ((u : ℕ) → u ∈ elements xs → p u ≡ true)

@@ -1,6 +1,6 @@
 // Rows of neighbours, and the rules that they keep.
 
-ghost use Rattle.std.specs.Prelude.{◌≡◌, ◌<◌, ◌↔◌, IsTrue, IsOk, IfOk, IfErr};
+ghost use Rattle.std.specs.Prelude.{◌≡◌, ◌<◌, ◌↔◌, not, ◌&&◌, nat_lt, nat_eq, IsTrue, IsOk, IfOk, IfErr};
 ghost use Rattle.network.specs.Sizes.{WithinLimits};
 ghost use Rattle.vertex_set.specs.Refusals.{FirstBroken};
 ghost use Rattle.tables.specs.Rows.{rows, row, Shaped, RowRight, RowsRight};
@@ -85,9 +85,18 @@ fn is_shaped(size: Size<1024>, starts: &[u32], neighbours: &[u16]) -> bool
         && starts.is_sorted_by(|start, next| start <= next)
 }
 
-// Whether the row of a vertex ascends, has only vertices, and leaves out the vertex itself.
+// Whether the row of a vertex ascends, has only vertices, and leaves out the vertex itself. It looks
+// no further than the first neighbour that is wrong.
 fn is_right_row(row: &[u16], vertices: u16, vertex: u16) -> bool
     ensures { IsTrue result ↔ RowRight vertices vertex row.now }
 {
-    row.is_sorted_by(|u, next| u < next) && row.iter().all(|u| *u < vertices && *u != vertex)
+    row.first().is_none_or(|u| is_other(*u, vertices, vertex))
+        && row.is_sorted_by(|u, next| u < next && is_other(*next, vertices, vertex))
+}
+
+// Whether u is one of so many vertices, and not the vertex itself.
+fn is_other(u: u16, vertices: u16, vertex: u16) -> bool
+    ensures { result ≡ (nat_lt u vertices && not (nat_eq u vertex)) }
+{
+    u < vertices && u != vertex
 }

@@ -1,8 +1,8 @@
 -- Counting members.
-use Rattle.std.proofs.Common.{◌≡◌, ℕ, zero, suc, ◌+◌, ◌<◌, ◌≤◌, Bool, true, false, cond, not, ◌&&◌, IsTrue, ◌⊎◌, ◌↔◌, sym, refl, ap, ◌∙◌, ap₂, inl, inr, not-suc-le-zero, add-zero, add-suc, arith}
-use Rattle.std.proofs.lemmas.Bool.{ltb-true, cases_eq, both_ways, and_from, and_left, and_right, not_from_true, not_from_false}
+use Rattle.std.proofs.Common.{◌≡◌, ℕ, zero, suc, ◌+◌, ◌<◌, ◌≤◌, min, Bool, true, false, cond, not, ◌&&◌, IsTrue, ltb, ◌⊎◌, ◌↔◌, sym, refl, ap, ◌∙◌, ap₂, inl, inr, not-suc-le-zero, add-zero, add-suc, arith}
+use Rattle.std.proofs.lemmas.Bool.{ltb-true, lt-ltb, le-ltb, cases_lt, cases_eq, both_ways, and_from, and_left, and_right, not_from_true, not_from_false}
 use Rattle.vertex_set.proofs.Sets.{without_here, without_other}
-use Rattle.vertex_set.specs.Sets.{Set, ◌∈◌, ◌⊆◌, Same, Limited, ◌∖◌, none, without_vertex, count, size}
+use Rattle.vertex_set.specs.Sets.{Set, ◌∈◌, ◌⊆◌, Same, Limited, ◌∖◌, none, below, without_vertex, count, size}
 
 -- the count depends on the members below n alone
 pub count_same : (s t : Set) (n : ℕ) → ((v : ℕ) → v < n → s v ≡ t v) → count s n ≡ count t n
@@ -23,6 +23,15 @@ pub count_none : (n : ℕ) → count none n ≡ 0
 unfolding count
 count_none zero = refl
 count_none (suc n) = omega (arith, count_none n)
+
+pub count_below : (m n : ℕ) → count (below m) n ≡ min m n
+unfolding count
+count_below m zero = omega arith
+count_below m (suc n) = go (cases_lt n m) (count_below m n)
+  where
+    go : (n < m) ⊎ (m ≤ n) → count (below m) n ≡ min m n → count (below m) n + cond (ltb n m) 1 0 ≡ min m (suc n)
+    go (inl l) e = rw (lt-ltb n m l) (omega arith)
+    go (inr l) e = rw (le-ltb n m l) (omega arith)
 
 -- sets that differ at v alone
 pub count_more : (s t : Set) (v n : ℕ) → s v ≡ false → t v ≡ true → ((u : ℕ) → (u ≡ v → ⊥) → s u ≡ t u) → v < n → count t n ≡ count s n + 1

@@ -11,7 +11,7 @@ use Rattle.vertex_set.proofs.Words.{member_at}
 
 module _ (ws : List ℕ) (v : ℕ) where
   -- no member from v up to u
-  abbrev NoneUpTo : ℕ → Type 0
+  abbrev pub NoneUpTo : ℕ → Type 0
   NoneUpTo u = (w : ℕ) → v ≤ w → w < u → w ∈ member ws → ⊥
 
   -- the bits of the word of v from v on
@@ -40,14 +40,14 @@ module _ (ws : List ℕ) (v : ℕ) where
           ap (member ws) (sym place) ∙ rest_bit (w - v) (omega (arith, within (cases_lt (v % 64 + t) 64))) ∙ h.before (w - v) (omega arith)
 
   pub first_in_rest : get_or ws (v / 64) 0 < 2 ^ 64 → 0 < rest → FirstFrom (member ws) v (v + count_trailing_zeros 64 rest)
-  first_in_rest small some = rest_first small _ (lowest_set rest some (omega (arith, shr_le (get_or ws (v / 64) 0) (v % 64))))
+  first_in_rest small some = rest_first small _ (lowest_set 64 rest some (omega (arith, shr_le (get_or ws (v / 64) 0) (v % 64))))
 
-  none_in_rest : rest ≡ 0 → NoneUpTo (64 * (v / 64 + 1))
+  pub none_in_rest : rest ≡ 0 → NoneUpTo (64 * (v / 64 + 1))
   none_in_rest e w a b m =
       let place : v + (w - v) ≡ w = omega arith in
       both_ways _ (ap (member ws) (sym place) ∙ rest_bit (w - v) (omega arith) ∙ ap (λ (x : ℕ). bit x (w - v)) e ∙ bit_zero (w - v)) m
 
-  none_in_word : (i : ℕ) → NoneUpTo (64 * i) → get_or ws i 0 ≡ 0 → NoneUpTo (64 * (i + 1))
+  pub none_in_word : (i : ℕ) → NoneUpTo (64 * i) → get_or ws i 0 ≡ 0 → NoneUpTo (64 * (i + 1))
   none_in_word i up e w a b m = go (cases_lt w (64 * i))
     where
       go : (w < 64 * i) ⊎ (64 * i ≤ w) → ⊥
@@ -61,8 +61,8 @@ module _ (ws : List ℕ) (v : ℕ) where
   none_in_words a zero up empty = rw add-zero up
   none_in_words a (suc n) up empty = rw (add-suc, ← add-one (a + n)) (none_in_word (a + n) (none_in_words a n up (λ i l m. empty i l (omega arith))) (empty (a + n) (omega arith) (omega arith)))
 
-  first_in_word : (i : ℕ) → v ≤ 64 * i → NoneUpTo (64 * i) → 0 < get_or ws i 0 → get_or ws i 0 < 2 ^ 64 → FirstFrom (member ws) v (64 * i + count_trailing_zeros 64 (get_or ws i 0))
-  first_in_word i l up some small = found _ (lowest_set (get_or ws i 0) some small)
+  pub first_in_word : (i : ℕ) → v ≤ 64 * i → NoneUpTo (64 * i) → 0 < get_or ws i 0 → get_or ws i 0 < 2 ^ 64 → FirstFrom (member ws) v (64 * i + count_trailing_zeros 64 (get_or ws i 0))
+  first_in_word i l up some small = found _ (lowest_set 64 (get_or ws i 0) some small)
     where
       found : (t : ℕ) → Lowest 64 (get_or ws i 0) t → FirstFrom (member ws) v (64 * i + t)
       found t h = record {

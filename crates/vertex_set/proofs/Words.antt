@@ -90,7 +90,7 @@ module _ (ws : List ℕ) (i v : ℕ) (word : i ≡ v / 64) (long : length ws ≡
     taken_out_size = count_more (member (flipped ws i v)) (member ws) v 1024 (flipped_here ∙ ap not was) was flipped_other within
 
 -- the members in the first i + 1 words are those in the first i, and the bits of word i
-count_word : (ws : List ℕ) (i : ℕ) → get_or ws i 0 < 2 ^ 64 → count (member ws) (64 * (i + 1)) ≡ count (member ws) (64 * i) + ones (get_or ws i 0)
+pub count_word : (ws : List ℕ) (i : ℕ) → get_or ws i 0 < 2 ^ 64 → count (member ws) (64 * (i + 1)) ≡ count (member ws) (64 * i) + ones (get_or ws i 0)
 count_word ws i l =
     let next : 64 * (i + 1) ≡ 64 * i + 64 = omega arith in
     let here : count (λ k. member ws (64 * i + k)) 64 ≡ ones (get_or ws i 0) = count_same _ (bit (get_or ws i 0)) 64 (λ k m. member_at ws i k m) ∙ sym (ones_count 64 (get_or ws i 0) l) in
@@ -123,7 +123,7 @@ words_and ws xs ys e d f = each_word ws (member xs ∩ member ys) e
 
 pub words_and_not : (ws xs ys : List ℕ) → length ws ≡ 16 → length xs ≡ 16 → ((i : ℕ) → i < 16 → get_or ys i 0 < 2 ^ 64) → ((i : ℕ) → i < 16 → get_or ws i 0 ≡ bit_and (get_or xs i 0) (18446744073709551615 - get_or ys i 0)) → Same (member ws) (member xs ∖ member ys)
 words_and_not ws xs ys e d small f = each_word ws (member xs ∖ member ys) e
-    (λ i k a b. ap (λ (x : ℕ). bit x k) (f i a) ∙ bit_of_and _ _ k ∙ ap (λ (x : Bool). bit (get_or xs i 0) k && x) (bit_not (get_or ys i 0) k (small i a) b) ∙ sym (ap₂ (λ (x y : Bool). x && not y) (member_at xs i k b) (member_at ys i k b)))
+    (λ i k a b. ap (λ (x : ℕ). bit x k) (f i a) ∙ bit_of_and _ _ k ∙ ap (λ (x : Bool). bit (get_or xs i 0) k && x) (bit_not 64 (get_or ys i 0) k (small i a) b) ∙ sym (ap₂ (λ (x y : Bool). x && not y) (member_at xs i k b) (member_at ys i k b)))
     (λ v m. and_left _ _ (member_past xs v d m))
 
 -- the members are as many as the set bits of all words together

@@ -37,8 +37,9 @@ impl VertexSet {
     pub fn below(n: u16) -> VertexSet
         ensures { Same (members result) (below (min n 1024)) }
     {
-        let n = n.min(1024);
-        VertexSet::of_words(array::from_fn(|i| low_bits(n.saturating_sub(64 * i as u16))))
+        let len = n.min(1024);
+        let words = array::from_fn(|i| low_bits(len.saturating_sub(64 * i as u16)));
+        VertexSet { words, len }
     }
 
     // Whether v is a member; a vertex of 1,024 or more never is.

@@ -64,9 +64,13 @@ impl Network for WeightTable {
         if layer >= self.rows.size.layers || vertex >= self.rows.size.vertices {
             return 0;
         }
-        (0..self.rows.size.vertices)
-            .zip(self.rows.row(layer, vertex))
-            .map(|(u, weight)| if group.contains(u) { *weight } else { 0 })
-            .fold(0, |sum: u16, weight| sum.saturating_add(weight))
+        let row = self.rows.row(layer, vertex);
+        row.iter().enumerate().fold(0, |sum: u16, (u, weight)| {
+            if group.contains(u as u16) {
+                sum.saturating_add(*weight)
+            } else {
+                sum
+            }
+        })
     }
 }

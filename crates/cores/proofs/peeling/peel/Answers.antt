@@ -1,3 +1,4 @@
+use Rattle.std.proofs.Common.{◌∙◌}
 use Rattle.vertex_set.specs.Members.{members}
 use Rattle.cores.proofs.Theory.{all_fit, core_within_all}
 use Rattle.cores.proofs.peeling.peel.Goals as goal
@@ -7,5 +8,5 @@ returns-clause-core g c =
     let net = g.N.Network.means c.args.network.now in
     let duties = g.met.N.Network.duties c.args.network.now in
     core_within_all net c.args.order.now c.args.vector.now (members c.below.result) (members c.shrink.new.group)
-    (all_fit g.N.Network.stated net duties c.vertices.result c.vertices.ensures (members c.below.result) c.below.ensures)
+    (λ v e. all_fit g.N.Network.stated net duties c.vertices.result c.vertices.ensures (members c.below.result) c.below.ensures v ∙ e)
     c.shrink.ensures

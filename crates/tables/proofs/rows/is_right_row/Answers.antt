@@ -1,19 +1,12 @@
-use Rattle.std.proofs.Common.{◌<◌, rules}
+use Rattle.std.proofs.Common.{◌≡◌, ◌<◌, length, get_or, true, rules}
 use borrow.Author.Tests.{tests}
-use Rattle.std.specs.Prelude.{◌≢◌}
-use Rattle.std.proofs.lemmas.Bool.{iff_false}
-use Rattle.std.proofs.lemmas.Iterator.{YieldsList-from_slice, cases_from_all}
-use Rattle.tables.proofs.Tests.{ascends, right_if}
+use Rattle.tables.proofs.Tests.{ascends, other, right_if}
 use Rattle.tables.proofs.rows.is_right_row.Goals as goal
 
-pub returns-then-is_sorted_by : goal.returns-then-is_sorted_by
-returns-then-is_sorted_by c =
+pub returns-then-is_none_or : goal.returns-then-is_none_or
+returns-then-is_none_or c =
+    let n = c.args.vertices in
+    let v = c.args.vertex in
     let xs = c.args.row.now in
-    let up = (ascends xs c.is_sorted_by.result c.is_sorted_by.ensures.cases (λ f a b q k. search (rules, tests))).0 c.if-is_sorted_by.true in
-    right_if c.args.vertices c.args.vertex xs c.all.result up
-    (cases_from_all _ _ _ (λ u. (u < c.args.vertices) × (u ≢ c.args.vertex)) (λ u. (u < c.args.vertices) × (u ≢ c.args.vertex) → ⊥) c.all.ensures.ran (YieldsList-from_slice xs cc) (λ x q k. search (rules, tests)) (λ x q k. search (rules, tests)))
-
-pub returns-else-is_sorted_by : goal.returns-else-is_sorted_by
-returns-else-is_sorted_by c =
-    let falls = iff_false (ascends c.args.row.now c.is_sorted_by.result c.is_sorted_by.ensures.cases (λ f a b q k. search (rules, tests))) c.if-is_sorted_by.false in
-    search rules
+    let first : 0 < length xs → other n v (get_or xs 0 0) ≡ true = λ some. search rules in
+    right_if n v xs c.is_sorted_by.result first (ascends xs c.is_sorted_by.result c.is_sorted_by.ensures.cases (other n v) (λ a b q k. search (rules, tests)))
