@@ -57,7 +57,8 @@ fn weak_in<N: Network>(
     ensures none { IfNone result ((v : ℕ) → range.start ≤ v → v < range.end
         → v ∈ members group.now
         → Strong (N.Network.means network.now) order.now vector.now (members group.now) v) }
-    ensures some { IfSome result (λ v. (v < range.end) × (v ∈ members group.now)
+    ensures some { IfSome result (λ v. (range.start ≤ v) × (v < range.end)
+        × (v ∈ members group.now)
         × Short (N.Network.means network.now) order.now vector.now (members group.now) v) }
 {
     range.find(|v| group.contains(*v) && is_weak(network, order, vector, group, *v))
