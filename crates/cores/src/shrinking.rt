@@ -20,7 +20,8 @@ pub fn shrink<N: Network>(network: &N, order: &[u8], vector: &[u16], group: &mut
     let mut first = 0;
     while let Some(vertex) = weak_from(network, order, vector, group, first) {
         group.remove(vertex);
-        // Going round, the vertex before 0 is the last.
+        // Going round, the vertex before 0 is the last: on some networks, going on at 0 would take
+        // the square of the time.
         first = vertex.checked_sub(1).unwrap_or(vertices - 1);
     }
 }
